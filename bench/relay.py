@@ -194,7 +194,7 @@ def rows_of(program, given):
 def main():
     words = usage(__doc__, program="the program")
     words.add_argument("--rate", type=int, default=10, help="how many megabits a link passes on in a second")
-    words.add_argument("--tick", type=int, default=10, help="how many milliseconds pass from tick to tick of a node")
+    words.add_argument("--tick", type=int, default=100, help="how many milliseconds pass from tick to tick of a node")
     words.add_argument("--rounds", type=int, default=3, help="how many blocks each row has")
     words.add_argument("--draw", action="store_true", help="measure nothing, and draw what was measured")
     given = words.parse_args()

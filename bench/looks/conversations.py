@@ -9,7 +9,7 @@ headers, blocks and transactions of a few branches, faulty ones among them, what
 other half a chain grows, and its blocks come as compact ones, known to the mempool in whole or not, right or wrong. At the end it
 tells how often each case came, and it fails if one never did. What the plain session reads of the shared state is compared with the
 answers of the plain hall (bench/models/plain_hall.py). With --plain no program is run. With --store the worked conversations are
-written as stored runs of cbrelay (runs/cbrelay/serve-compact-*.run) and as an example (examples/relay.bin).
+written as stored runs of cbrelay (runs/cbrelay/serve-*.run) and as an example (examples/relay.bin).
 """
 
 import os
@@ -34,7 +34,7 @@ CONVERSATIONS = 2_000
 SENT = {"Bye", "BadStream", "BadMessage", "BadBlock", "BadRequest", "OldPeer", "SelfPeer", "version", "verack", "pong", "sendheaders",
         "sendcmpct", "getheaders", "getdata", "inv", "headers", "block", "tx", "notfound", "cmpctblock", "getblocktxn", "blocktxn",
         "16 asked for"}
-# And the rules of compact blocks, and of blocks without room, that have to come up.
+# And the rules of compact blocks, of blocks without room, of what is unknown and of what isn't told that have to come up.
 CASES = {
     "cmpctblock: no place", "cmpctblock: no work", "cmpctblock: known", "cmpctblock: F23 NoParent", "cmpctblock: F24 BadParent",
     "cmpctblock: repeated ids", "cmpctblock: places missing", "cmpctblock: places missing, in flight",
@@ -47,7 +47,12 @@ CASES = {
     "a compact block that isn't there", "getblocktxn: no block", "getblocktxn: no place", "getblocktxn: part", "getblocktxn: part at 10",
     "getblocktxn: several", "getblocktxn: whole", "getblocktxn: whole at 11", "told: compact", "told: headers",
     "told: headers, of several", "told: headers, of eight", "told: hash", "told: hash, of many", "no room", "fallback: no room",
-    "lacking, and not wanted meanwhile", "headers are not asked for meanwhile", "asked again",
+    "lacking, and not wanted meanwhile", "headers are not asked for meanwhile", "asked again", "the unknown isn't asked for meanwhile",
+    "unknown: headers", "unknown: cmpctblock", "unknown: block", "unknown: inv", "asked for already: headers", "asked for already: cmpctblock",
+    "asked for already: block", "asked for already: inv", "cleared: headers", "cleared: no headers", "not cleared",
+    "before its parent, which is in flight", "before its parent, which is wanted", "before its parent: wanted already",
+    "before its parent: no room", "listed again: last", "listed again: its own room", "listed again: no room any more",
+    "listed again: wanted, and in flight", "transactions that aren't told", "another relay byte that doesn't count",
     "the peer is asked for compact blocks: unasked", "six questions"}
 
 
@@ -97,10 +102,10 @@ def row_differences(program, row):
 
 def store():
     """Writes the worked conversations as stored runs, and one as an example."""
-    for make in relay_rows.ROWS:
-        row = make()
-        with open(os.path.join(ROOT, f"runs/cbrelay/serve-compact-{row.name}.run"), "w", encoding="ascii") as file:
-            file.write(relay_rows.run_text(row))
+    for kind, makers in (("serve-compact", relay_rows.ROWS), ("serve", relay_rows.OF_SESSIONS)):
+        for row in (make() for make in makers):
+            with open(os.path.join(ROOT, f"runs/cbrelay/{kind}-{row.name}.run"), "w", encoding="ascii") as file:
+                file.write(relay_rows.run_text(row))
     row = relay_rows.relay()
     for ending, text in (("", row.said()), (".stdout", row.told()), (".args", b"serve\n")):
         with open(os.path.join(ROOT, f"examples/relay.bin{ending}"), "wb") as file:
@@ -136,7 +141,7 @@ def main():
     words = parser.parse_args()
     count, seed = int(words.count or CONVERSATIONS), int(words.seed or 1)
     program = None if words.plain or words.store else built(words.program, "cbrelay")
-    rows = [difference for make in relay_rows.ROWS + relay_rows.OTHERS for difference in row_differences(program, make())]
+    rows = [difference for make in relay_rows.ROWS + relay_rows.OF_SESSIONS + relay_rows.OTHERS for difference in row_differences(program, make())]
     if words.store:
         print("\n".join(rows) or "conversations: stored")
         if not rows:

@@ -328,7 +328,10 @@ class Limits(ProcessLooks):
     def is_told(self, node, place, who, made, quiet=0):
         """At this place of `peers` stands this version, height and agent, and it was connected and spoke last at these times."""
         self.comes("its greeting", node, lambda: node.peers()[place].phase == "ready")
-        now, told = time.time(), node.peers()[place]
+        now = time.time()
+        # what came is noted each 10 ms
+        node.until(lambda: abs((node.peers()[place].last or 0) - now + quiet) <= NEAR, NEAR)
+        told = node.peers()[place]
         self.look("who it is", (told.version, told.height, told.agent), who)
         self.is_near("since when", told.since, made)
         self.is_near("when it spoke last", told.last or 0, now - quiet)

@@ -74,8 +74,11 @@ class PlainSession:
     next: int = 0
     flight: list = field(default_factory=list)
     wanted: list = field(default_factory=list)
-    # The header behind which blocks had no room.
+    # The header behind which blocks had no room, and whether headers were asked for because something is unknown.
     resume_from: bytes = None
+    unknown: bool = False
+    # Whether the peer wants to be told of transactions.
+    relay: bool = True
     # The compact block that lacks transactions, how many compact blocks were made, and whether the peer was asked to send its own unasked.
     partial: Partial = None
     made: int = 0
@@ -108,6 +111,8 @@ class PlainSession:
             self.out.append(envelope(b"pong", struct.pack("<Q", value)))
         elif name == "version" and self.phase == "Start":
             self.introduced(value)
+        elif name == "version":
+            self.met["another relay byte that doesn't count"] += value.relay != self.relay
         elif name == "verack" and self.phase == "Greeted":
             self.ready()
         elif name == "sendheaders" and self.phase in ("Greeted", "Ready"):
@@ -122,7 +127,7 @@ class PlainSession:
             raise Closed("SelfPeer")
         if told.version < 70001:
             raise Closed("OldPeer")
-        self.phase, self.version = "Greeted", told.version
+        self.phase, self.version, self.relay = "Greeted", told.version, told.relay
         self.out += [wire.version(self.settings)] * self.settings.inbound + [envelope(b"verack", b"")]
 
     def ready(self):
@@ -138,16 +143,37 @@ class PlainSession:
             return
         self.out.append(wire.getheaders(locator or self.shared.chain.locator()))
 
+    def ask_unknown(self, cause):
+        """Asks for headers because something is unknown, unless they are asked for already."""
+        if self.resume_from is not None:
+            self.met["the unknown isn't asked for meanwhile"] += 1
+        elif self.unknown:
+            self.met[f"asked for already: {cause}"] += 1
+        else:
+            self.met[f"unknown: {cause}"] += 1
+            self.unknown = True
+            self.ask_headers()
+
+    def cleared(self, cause):
+        """What was unknown may be asked for again."""
+        self.met[f"cleared: {cause}"] += self.unknown
+        self.unknown = False
+
     # ---- what the peer tells
 
     def told_headers(self, headers):
         if not headers:
+            self.cleared("no headers")
             return
         self.heard = headers[-1].name
         lack, refused = self.give_headers(headers)
+        if refused == "F23 NoParent":
+            self.met["not cleared"] += self.unknown
+        else:
+            self.cleared("headers")
         self.want_all(lack, headers[0].prev)
         if refused == "F23 NoParent":
-            self.ask_headers()
+            self.ask_unknown("headers")
         if refused is None and len(headers) == wire.MOST_HEADERS:
             self.ask_headers([headers[-1].name])
 
@@ -166,12 +192,24 @@ class PlainSession:
         return lack, refused
 
     def want_all(self, names, before):
-        """Keeps lacking blocks in mind. Where some have no room, the header before them is remembered; while one is, none joins."""
+        """Wants lacking blocks, in their order and last. Where some have no room, the header before them is remembered; while one is, nothing
+        changes."""
         if self.resume_from is not None:
             self.met["lacking, and not wanted meanwhile"] += bool(names)
             return
+        old, listed = self.wanted, set(names) - set(self.flight)
+        self.wanted = [name for name in self.wanted if name not in listed]
         for name in names:
             self.want(name, before)
+        self.note_listed(names, old, listed)
+
+    def note_listed(self, names, old, listed):
+        """Notes what became of those that were wanted before they were listed."""
+        behind = set(self.wanted)
+        self.met["listed again: last"] += [name for name in self.wanted if name in set(old)] != [name for name in old if name in behind]
+        self.met["listed again: its own room"] += len(old) == MOST_WANTED and not listed.isdisjoint(old)
+        self.met["listed again: no room any more"] += not behind.issuperset(old)
+        self.met["listed again: wanted, and in flight"] += not set(names).isdisjoint(set(self.flight) & behind)
 
     def want(self, name, before):
         if name in self.wanted or name in self.flight:
@@ -191,7 +229,7 @@ class PlainSession:
         if txs:
             self.out.append(wire.entries(b"getdata", txs))
         if len(txs) < len(need):
-            self.ask_headers()
+            self.ask_unknown("inv")
 
     def needed(self, entries):
         self.questions += 1
@@ -292,8 +330,19 @@ class PlainSession:
         self.questions += 1
         refused = self.shared.answer_block(self.connection, block, self.capable)[0].removeprefix("block ").split(" locator")[0]
         if refused == "F23 NoParent":
-            self.ask_headers()
+            self.without_parent(block.header)
         return refused
+
+    def without_parent(self, header):
+        """Wants a block again that came before its parent, if that is to come, and else asks for what is unknown."""
+        is_to_come = header.prev in self.flight or header.prev in self.wanted
+        if self.resume_from is not None or not is_to_come:
+            self.ask_unknown("block")
+            return
+        self.met[f"before its parent, which is {'in flight' if header.prev in self.flight else 'wanted'}"] += 1
+        self.met["before its parent: wanted already"] += header.name in self.wanted
+        self.met["before its parent: no room"] += header.name not in self.wanted and len(self.wanted) == MOST_WANTED
+        self.want(header.name, header.prev)
 
     def told_notfound(self, entries):
         self.land(*(name for kind, name in entries if kind in (BLOCK, COMPACT)))
@@ -309,7 +358,7 @@ class PlainSession:
         self.met["cmpctblock: no work"] += not short.header.works
         lack, refused = self.give_headers([short.header])
         if refused == "F23 NoParent":
-            self.ask_headers()
+            self.ask_unknown("cmpctblock")
         if not lack:
             self.met[f"cmpctblock: {refused or 'known'}"] += 1
             self.land(self.heard)
@@ -411,7 +460,8 @@ class PlainSession:
         self.told, self.next = tip, self.shared.next
         if path and tip != self.heard:
             self.tell_tip(tip, path)
-        if txids:
+        self.met["transactions that aren't told"] += bool(txids) and not self.relay
+        if txids and self.relay:
             self.out.append(wire.entries(b"inv", [(TX, name) for name in txids]))
         if self.capable and high != self.asked_high:
             self.met[f"the peer is asked for compact blocks: {'unasked' if high else 'asked for'}"] += 1

@@ -21,6 +21,11 @@ LONGEST, BLOCKS = 40, 24
 NOBODY, NO_TX = bytes(32), bytes([1]) * 32
 
 
+def hello(relay):
+    """A version with this relay byte, which may be missing."""
+    return envelope(b"version", wire.version(Settings(nonce=7))[24:-1] + relay)
+
+
 class Spoken:
     """The stream of one peer, what the plain session answers, and why it ends."""
 
@@ -75,8 +80,8 @@ class Conversation(Spoken):
     def handshake(self):
         number = self.rng.choice([70014] * 8 + [70012, 70001, 70000, 60000, 80000])
         nonce = self.rng.choice([7] * 20 + [1])
-        version = wire.version(Settings(nonce=nonce))[24:]
-        version = envelope(b"version", struct.pack("<i", number) + version[4 : self.rng.choice([96, 97, 97, 97])] + b"\7" * self.rng.randrange(2))
+        version = wire.version(Settings(nonce=nonce))[24:-1] + self.rng.choice([b"", b"\1", b"\1", b"\0", b"\7"])
+        version = envelope(b"version", struct.pack("<i", number) + version[4:] + b"\7" * self.rng.randrange(2))
         parts = [version, envelope(b"verack", b"")]
         if self.rng.random() < 0.15:
             self.rng.shuffle(parts)
@@ -188,7 +193,7 @@ class Relay(Conversation):
 
     def handshake(self):
         self.blocks, self.txs = [], []
-        self.say(wire.version(Settings(nonce=7)))
+        self.say(hello(self.rng.choice([b"", b"\1", b"\1", b"\1", b"\0", b"\0"])))
         self.say(envelope(b"verack", b""))
         wish = self.rng.choice(["none", "early", "early", "early", "late"])
         if wish == "early":
@@ -201,8 +206,9 @@ class Relay(Conversation):
             self.wish()
         self.coins_given()
         if self.rng.random() < 0.4:
-            self.rng.choice([self.many_headers, self.headers_twice, self.overtaken, self.marked])()
-        if self.rng.random() < 0.02:
+            self.rng.choice([self.many_headers, self.headers_twice, self.overtaken, self.marked, self.asked_twice, self.children_first,
+                             self.put_back])()
+        if self.rng.random() < 0.03:
             self.crowded()
 
     def crowded(self):
@@ -211,15 +217,21 @@ class Relay(Conversation):
         for _ in range(MOST_FLIGHT + MOST_WANTED + 2):
             texts.append(header_text(names[-1], bytes(random_bytes(self.rng, 32))))
             names.append(hash_twice(texts[-1]))
-        some = MOST_FLIGHT + MOST_WANTED + self.rng.choice([0, 1, 2])
+        some = MOST_FLIGHT + MOST_WANTED + self.rng.choice([0, 0, 0, 1, 2])
         self.say(wire.headers(texts[: wire.MOST_HEADERS]))
         self.say(wire.headers(texts[wire.MOST_HEADERS : some]))
+        self.rng.choice([lambda: None, lambda: self.listed_again(texts[:some]), lambda: self.give(self.bare(names[self.rng.choice([9, some - 1])]))])()
         self.say(wire.headers(texts[some - 1 :]))
         self.say(wire.cmpctblock(texts[-1], 0, [1, 1], []))
         self.say(wire.entries(b"inv", [(2, NOBODY)]))
         while self.session.flight and not self.closed:
             self.say(wire.entries(b"notfound", [(2, name) for name in self.session.flight]))
         self.say(wire.headers(texts[wire.MOST_HEADERS :]))
+
+    def listed_again(self, texts):
+        """Headers of blocks that are wanted, mostly behind those of others that aren't."""
+        branch = [header_text(self.tip(), bytes(random_bytes(self.rng, 32))) for _ in range(self.rng.randrange(3))]
+        self.say(wire.headers(branch + texts[-self.rng.randrange(1, 40) :]))
 
     # ---- what the session knows
 
@@ -456,3 +468,36 @@ class Relay(Conversation):
         self.say(self.compact(bad, places))
         self.say(self.compact(bad, places))
         self.say(self.compact(above))
+
+    def asked_twice(self):
+        """Blocks on one that isn't known are told in all ways. The headers that are asked for come between, or none do, or those of others."""
+        known, below = self.made(self.tip(), 0), self.bare(self.tip())
+        above = [self.bare(below.header.name)]
+        above.append(self.bare(above[0].header.name))
+        for _ in range(self.rng.randrange(2, 9)):
+            block = self.rng.choice(above)
+            ways = [lambda: self.compact(block), lambda: wire.headers([block.header.text]), lambda: envelope(b"block", block.text),
+                    lambda: wire.entries(b"inv", [(2, block.header.name)]), lambda: wire.headers([]), lambda: wire.headers([known.header.text]),
+                    lambda: hello(self.rng.choice([b"\0", b"\1"]))]
+            self.say(self.rng.choices(ways, [4, 2, 2, 2, 1, 1, 1])[0]())
+
+    def children_first(self):
+        """Headers of some blocks, which then come in no order, whole or as compact ones, while some are listed again and others fall back."""
+        blocks = [self.bare(self.tip())]
+        for _ in range(self.rng.choice([1, 2, 3, 18])):
+            blocks.append(self.bare(blocks[-1].header.name))
+        other = self.bare(self.tip())
+        self.say(wire.headers([block.header.text for block in blocks]))
+        for _ in range(2 * len(blocks)):
+            block, start = self.rng.choice(blocks), self.rng.randrange(len(blocks))
+            ways = [lambda: envelope(b"block", block.text), lambda: self.compact(block), lambda: self.compact(block, (0,), self.repeat_an_id),
+                    lambda: wire.headers([it.header.text for it in blocks[start : start + 4]]), lambda: wire.headers([other.header.text])]
+            self.say(self.rng.choices(ways, [4, 4, 1, 1, 1])[0]())
+
+    def put_back(self):
+        """A block whose transactions go back to the pool, since a branch that hasn't them becomes longer."""
+        first = self.tip()
+        self.give(self.made(first, 2))
+        for _ in range(2):
+            first = self.bare(first).header.name
+            self.give(self.blocks[-1])

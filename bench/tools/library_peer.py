@@ -6,6 +6,7 @@ written and read as blocks without transactions, by the library's own reader and
 
 import contextlib
 import io
+import select
 import socket
 
 import bitcoin
@@ -76,6 +77,18 @@ class LibraryPeer:
             if message is not None:
                 return message
 
+    def has_more(self, seconds):
+        """Whether something has come, or comes within so many seconds."""
+        return self.holds() or bool(select.select([self.socket], [], [], seconds)[0])
+
+    def holds(self):
+        """Whether something has come."""
+        patience = self.socket.gettimeout()
+        self.socket.setblocking(False)
+        held = self.file.peek(1)
+        self.socket.settimeout(patience)
+        return bool(held)
+
     def expect(self, command):
         """The next message, which has this command. A getheaders before it is passed over where another command is wanted."""
         message = self.receive()
@@ -87,15 +100,15 @@ class LibraryPeer:
 
     # ---- what a peer says
 
-    def greet(self, agent=AGENT, height=-1):
-        """The version that it tells."""
+    def greet(self, agent=AGENT, height=-1, relay=True):
+        """The version that it tells, with whether it wants to be told of transactions."""
         hello = msg_version()
-        hello.nVersion, hello.nNonce, hello.strSubVer, hello.nStartingHeight, hello.fRelay = VERSION, NONCE, agent, height, True
+        hello.nVersion, hello.nNonce, hello.strSubVer, hello.nStartingHeight, hello.fRelay = VERSION, NONCE, agent, height, relay
         self.send(hello)
 
-    def shake_hands(self, agent=AGENT, height=-1):
+    def shake_hands(self, agent=AGENT, height=-1, relay=True):
         """The handshake. The node's version and the hashes behind which it asks for headers come back."""
-        self.greet(agent, height)
+        self.greet(agent, height, relay)
         version = self.expect(b"version")
         self.expect(b"verack")
         self.send(msg_verack())
@@ -135,11 +148,15 @@ class LibraryPeer:
         """Of what the node tells."""
         return [(entry.type, entry.hash) for entry in self.expect(b"inv").inv]
 
-    def headers_behind(self, *names):
-        """The headers that the node has behind the first of these that it knows."""
+    def ask_headers(self, *names):
+        """Asks for the headers behind the first of these that the node knows."""
         request = msg_getheaders()
         request.locator.nVersion, request.locator.vHave = VERSION, list(names)
         self.send(request)
+
+    def headers_behind(self, *names):
+        """The headers that the node has behind the first of these that it knows."""
+        self.ask_headers(*names)
         return self.expect(b"headers").headers
 
     def tell_headers(self, blocks):

@@ -42,6 +42,11 @@ class PlainPeer:
 
     def receive(self):
         """The next message: its name and its value."""
+        name, payload = self.receive_payload()
+        return name, good(name, payload)[2]
+
+    def receive_payload(self):
+        """The next message: its name and its payload."""
         while len(self.held) < 24 or len(self.held) < 24 + self.length():
             self.more()
         end = 24 + self.length()
@@ -49,7 +54,7 @@ class PlainPeer:
         name = front[4:16].rstrip(b"\0").decode()
         if front[:4] != MAGIC or hash_twice(payload)[:4] != front[20:]:
             raise ValueError(f"a damaged {name}")
-        return name, good(name, payload)[2]
+        return name, payload
 
     def length(self):
         """The length of the payload whose front came."""
@@ -67,6 +72,11 @@ class PlainPeer:
     def is_quiet(self, seconds):
         """Whether nothing comes for so long."""
         return not self.held and not select.select([self.stream], [], [], seconds)[0]
+
+    def pass_over(self):
+        """Passes over all that has come."""
+        while not self.is_quiet(0):
+            self.receive_payload()
 
     def shake_hands(self, *further):
         """The handshake, and further messages behind it."""
@@ -109,5 +119,7 @@ class PlainPeer:
 
 
 def dialled(port, seconds=60):
-    """A peer that dialled a node on this machine."""
-    return PlainPeer(socket.create_connection(("127.0.0.1", port), seconds))
+    """A peer that dialled a node on this machine. Small writes aren't held back."""
+    stream = socket.create_connection(("127.0.0.1", port), seconds)
+    stream.setsockopt(socket.IPPROTO_TCP, socket.TCP_NODELAY, 1)
+    return PlainPeer(stream)

@@ -186,15 +186,23 @@ class NodeProcess:
 
     def waited(self):
         """For how many seconds its threads have waited for a processor that others had."""
-        waited = 0
+        return self.scheduled(1)
+
+    def computed(self):
+        """For how many seconds its threads have had a processor, to the nanosecond."""
+        return self.scheduled(0)
+
+    def scheduled(self, field):
+        """A field of what the kernel tells of the times of each of its threads, in seconds, of all that last."""
+        seconds = 0
         for name in os.listdir(f"/proc/{self.process.pid}/task"):
             try:
                 with open(f"/proc/{self.process.pid}/task/{name}/schedstat", encoding="ascii") as file:
-                    waited += int(file.read().split()[1]) / 1e9
+                    seconds += int(file.read().split()[field]) / 1e9
             except (FileNotFoundError, ProcessLookupError):
                 # The thread has ended since, or the kernel doesn't tell.
                 pass
-        return waited
+        return seconds
 
     def threads(self):
         """How many threads it has."""

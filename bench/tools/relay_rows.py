@@ -1,7 +1,7 @@
-"""Worked conversations with compact blocks: what a peer says, step by step, and what it must be told, message by message.
+"""Worked conversations, most of them with compact blocks: what a peer says, step by step, and what it must be told, message by message.
 
 What is told was worked out by hand from the rules in docs/PROTOCOL.md. bench/looks/conversations.py plays them to the plain session, and
-writes them as stored runs of cbrelay (runs/cbrelay/serve-compact-*.run) and as an example (examples/relay.bin).
+writes them as stored runs of cbrelay (runs/cbrelay/serve-*.run) and as an example (examples/relay.bin).
 """
 
 import struct
@@ -73,9 +73,9 @@ def message(command, *parts):
     return Message(command, parts)
 
 
-def version(nonce, services, agent):
-    """The version 70014, at the time 0 and the height 0, between zero addresses."""
-    return message("version", u32(70014), u64(services), u64(0), bytes(52), u64(nonce), bytes([len(agent)]) + agent, u32(0), b"\1")
+def version(nonce, services, agent, relay=b"\1"):
+    """The version 70014, at the time 0 and the height 0, between zero addresses, with this relay byte, which may be missing."""
+    return message("version", u32(70014), u64(services), u64(0), bytes(52), u64(nonce), bytes([len(agent)]) + agent, u32(0), relay)
 
 
 def sendcmpct(high, number=1):
@@ -171,10 +171,10 @@ def raised(count, mark=0):
 # ---- rows
 
 
-def begun(name, remark, wish=None):
+def begun(name, remark, wish=None, relay=b"\1"):
     """A conversation with a handshake, by a peer that knows compact blocks if it has a wish of them."""
     row = Row(name, remark)
-    said = [version(7, 0, b""), message("verack")] + ([sendcmpct(wish)] if wish is not None else [])
+    said = [version(7, 0, b"", relay), message("verack")] + ([sendcmpct(wish)] if wish is not None else [])
     told = [version(1, 1, b"/cbrelay:1/"), message("verack"), message("sendheaders"), sendcmpct(0), getheaders(GENESIS)]
     row.step("the handshake" + {None: "", 0: ", and that the peer knows compact blocks, and wants them if it asks for them",
                                 1: ", and that the peer wants compact blocks unasked"}[wish], said, told)
@@ -491,9 +491,90 @@ def unknown_parent():
     three = mined(3, two.header.name)
     row.step("block 3, of which all is whole: `getheaders` behind block 1", [compact(three)], [getheaders(FIRST.header.name, GENESIS)])
     row.step("the headers of block 2 and 3: both blocks are asked for", [headers(two, three)], [getdata(BLOCK, two.header.name, three.header.name)])
-    row.step("block 3 as a compact block: it is rebuilt, but the block below it isn't there", [compact(three)], [getheaders(FIRST.header.name, GENESIS)])
-    row.step("block 2, and block 3 again", [block(two), compact(three)])
+    row.step("block 3 as a compact block: it is rebuilt, but the block below it isn't there yet. It waits, since that one is in flight", [compact(three)])
+    row.step("block 2: block 3 is asked for again", [block(two)], [getdata(BLOCK, three.header.name)])
+    row.step("block 3 as a compact block", [compact(three)])
     row.step("the headers behind the first block", [getheaders(GENESIS)], [headers(FIRST, two, three)])
+    return row
+
+
+def on_an_unknown_one(count):
+    """So many blocks one on another, the first of them on the first block."""
+    blocks = [on_first()]
+    while len(blocks) < count:
+        blocks.append(mined(len(blocks) + 2, blocks[-1].header.name))
+    return blocks
+
+
+def asked_once():
+    row = begun("asked-once", "Headers are asked for once, in whatever way unknown blocks are told. Empty `headers` let them be asked for again.")
+    given_first(row)
+    two, three, four, five = on_an_unknown_one(4)
+    behind_first = getheaders(FIRST.header.name, GENESIS)
+    row.step("block 3 as a compact block, on an unknown one: `getheaders` behind block 1", [compact(three)], [behind_first])
+    row.step("block 4 as a compact block, by its header, whole, and by its hash: nothing", [compact(four), headers(four), block(four), inv(BLOCK, four.header.name)])
+    row.step("no headers: the peer has none. Then block 5 by its hash: `getheaders`", [headers(), inv(BLOCK, five.header.name)], [behind_first])
+    row.step("no headers, and the header of block 5: `getheaders`", [headers(), headers(five)], [behind_first])
+    row.step("no headers, and block 5 itself: `getheaders`", [headers(), block(five)], [behind_first])
+    row.step("the headers that are asked for", [headers(two, three, four, five)], [getdata(BLOCK, *(one.header.name for one in (two, three, four, five)))])
+    row.step("the blocks", map(block, (two, three, four, five)))
+    row.step("the headers behind the first block: all are there", [getheaders(GENESIS)], [headers(FIRST, two, three, four, five)])
+    return row
+
+
+def asked_again():
+    row = begun("asked-again", "Headers of a known parent let headers be asked for again; those of an unknown one don't.")
+    given_first(row)
+    two, three, four, five = on_an_unknown_one(4)
+    behind_first = getheaders(FIRST.header.name, GENESIS)
+    row.step("block 3 as a compact block, on an unknown one: `getheaders` behind block 1", [compact(three)], [behind_first])
+    row.step("the header of block 5, whose parent is unknown too, and block 5: nothing", [headers(five), compact(five)])
+    row.step("the header of block 2: it is asked for", [headers(two)], [getdata(BLOCK, two.header.name)])
+    row.step("block 5 again: `getheaders`", [compact(five)], [behind_first])
+    row.step("the header of block 2, which is known and in flight", [headers(two)])
+    row.step("the header of block 5 again: `getheaders`", [headers(five)], [behind_first])
+    row.step("block 2", [block(two)])
+    row.step("the headers behind it: all three are asked for", [headers(three, four, five)], [getdata(BLOCK, *(one.header.name for one in (three, four, five)))])
+    return row
+
+
+def parents_first():
+    row = begun("parents-first", "A block that comes before its parent waits, and what is listed again stands last: so parents are asked for first.")
+    one, two, three, four = raised(4)
+    names = [it.header.name for it in (one, two, three, four)]
+    other = mined(1, GENESIS, mark=1)
+    row.step("the headers of four blocks: all are asked for", [headers(one, two, three, four)], [getdata(BLOCK, *names)])
+    row.step("block 2, whose parent is in flight, and block 3, whose parent waits: both wait, and nothing is sent", [block(two), block(three)])
+    row.step("the header of another block of height 1: it waits behind both", [headers(other)])
+    row.step("the headers of block 2 to 4 again: block 2 and 3 wait behind the other one, and block 4 is in flight", [headers(two, three, four)])
+    row.step("block 4, whose parent waits, and waits too. Then block 1: what waits is asked for, in its order", [block(four), block(one)],
+             [getdata(BLOCK, other.header.name, *names[1:])])
+    row.step("these blocks", map(block, (other, two, three, four)))
+    row.step("the headers behind the network's first block: all four", [getheaders(GENESIS)], [headers(one, two, three, four)])
+    return row
+
+
+def put_back(row):
+    """A block with a transaction, and two of a branch beside it: the transaction goes back to the mempool, and is new there."""
+    given_first(row)
+    two, other = on_first(COINS[0]), on_first(mark=1)
+    row.step("block 2, which spends an output of block 1", [block(two)])
+    return [block(other), block(mined(3, other.header.name))]
+
+
+def no_transactions():
+    row = begun("no-transactions", "A peer whose first `version` has the relay byte 0 isn't told of transactions. One that it asks for is sent.", relay=b"\0")
+    blocks = put_back(row)
+    row.step("another `version`, whose relay byte doesn't count", [version(7, 0, b"")])
+    row.step("a longer branch: the transaction is in the mempool again, and isn't told", blocks)
+    row.step("the transaction is asked for", [getdata(TX, COINS[0].name)], [tx(COINS[0])])
+    return row
+
+
+def transactions_told():
+    row = begun("transactions-told", "A peer whose `version` has no relay byte is told of transactions.", relay=b"")
+    row.step("a longer branch: the transaction is in the mempool again, and is told", put_back(row), [inv(TX, COINS[0].name)])
+    row.step("the transaction is asked for", [getdata(TX, COINS[0].name)], [tx(COINS[0])])
     return row
 
 
@@ -605,6 +686,8 @@ def relay():
 ROWS = [repeated_ids, wrong_list, two_missing, one_of_two, exchanged, depths, known, replaced, dropped, two_pairs, told_ways, told_in_order,
         told_unasked, told_no_longer, told_if_asked, another_version, near_the_tip, no_such_place, no_such_request, no_such_request_below,
         place_past_64_bits, request_past_64_bits, whole_of_64_bytes, nobody_asked, not_held_against, unknown_parent, too_many_in_flight, relay]
+# These have other names: few compact blocks are in them.
+OF_SESSIONS = [asked_once, asked_again, parents_first, no_transactions, transactions_told]
 # These are too long to be stored.
 OTHERS = [twenty_headers, behind_a_checkpoint, asked_often, far_apart, a_header_without_work]
 

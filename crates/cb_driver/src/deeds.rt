@@ -13,8 +13,8 @@ use cb_node::{Node, NodeFault};
 use std::alloc::Global;
 
 /// Has a node do what a line says. `mark` tells the blocks that it mines from those of other nodes.
-/// If `prompt` is set, a tick of each connection is due behind each block and transaction that the
-/// node took, so its peers are told at once.
+/// If `prompt` is set, a tick of each connection is due behind a transaction that the node took, so
+/// its peers are told at once. Of a block they are told as the node's settings say.
 ///
 /// Returns the answer if it was done, else why it wasn't; nothing was done then, but `Deed::Mine`
 /// keeps the blocks before the one that was refused.
@@ -31,11 +31,14 @@ pub fn perform<R: Host>(
     match deed {
         Deed::Tx(tx) => {
             let txid = tx.txid(alloc)?;
-            give(node, Local::Tx(tx), prompt)?;
+            node.give(Local::Tx(tx))?;
+            if prompt {
+                node.tick();
+            }
             Ok(Reply::Tx(txid))
         }
-        Deed::Submit(block) => submit(alloc, node, block, prompt),
-        Deed::Mine(count) => mine(node, count, mark, prompt),
+        Deed::Submit(block) => submit(alloc, node, block),
+        Deed::Mine(count) => mine(node, count, mark),
         Deed::Kick(slot) => {
             node.kick(slot)?;
             Ok(Reply::Kicked(slot))
@@ -48,17 +51,12 @@ pub fn perform<R: Host>(
 }
 
 /// Gives a node a block, whose transactions must be those of its header.
-fn submit<R: Host>(
-    alloc: Global,
-    node: &Node<R>,
-    block: Shared<Block>,
-    prompt: bool,
-) -> Result<Reply, NodeFault>
+fn submit<R: Host>(alloc: Global, node: &Node<R>, block: Shared<Block>) -> Result<Reply, NodeFault>
     ensures { IfOk result (λ reply. CanTell (deeds.Submit block) reply) }
 {
     let hash = block.header.hash();
     match sound(alloc, block) {
-        Ok(block) => give(node, Local::Block(block), prompt)?,
+        Ok(block) => node.give(Local::Block(block))?,
         Err((block, fault)) => {
             drop(block);
             return Err(NodeFault::from(fault));
@@ -69,22 +67,13 @@ fn submit<R: Host>(
 
 /// Mines so many blocks, one on the other, and gives the node each. Stops at the first that is
 /// refused.
-fn mine<R: Host>(node: &Node<R>, count: u16, mark: u8, prompt: bool) -> Result<Reply, NodeFault>
+fn mine<R: Host>(node: &Node<R>, count: u16, mark: u8) -> Result<Reply, NodeFault>
     ensures { IfOk result (λ reply. CanTell (deeds.Mine count) reply) }
 {
     for _ in 0..count {
-        give(node, Local::Block(node.mine(mark)?), prompt)?;
+        node.give(Local::Block(node.mine(mark)?))?;
     }
     Ok(Reply::Mined(count, tip_of(node)))
-}
-
-/// Gives a node a transaction or a block.
-fn give<R: Host>(node: &Node<R>, local: Local, prompt: bool) -> Result<(), NodeFault> {
-    node.give(local)?;
-    if prompt {
-        node.tick();
-    }
-    Ok(())
 }
 
 /// The tip of a node's best chain.

@@ -213,6 +213,7 @@ fn settings_of(number: u16, handlers: u16) -> NodeSettings
         inbound: SLOTS,
         outbound: SLOTS,
         handlers,
+        prompt: false,
     }
 }
 

@@ -1,9 +1,9 @@
 -- What was wanted stays in front of what becomes wanted, and what is in flight stays.
 use Rattle.std.proofs.Common.{◌≡◌, Bool, true, false, cond, List, [], ◌∷◌, ◌++◌, length, take, refl, sym, ap, ◌∙◌}
-use Rattle.std.specs.Prelude.{nat_lt}
+use Rattle.std.specs.Prelude.{fold, nat_lt}
 use Rattle.std.proofs.lemmas.List.{append-nil, append_assoc, take_at}
 use Rattle.cb_base.specs.declared.hash.Hash256.{Hash256}
-use Rattle.cb_fetch.specs.Fetching.{FetchState, is_fetched, wanting, wanting_all}
+use Rattle.cb_fetch.specs.Fetching.{FetchState, is_fetched, wanting}
 
 record Grown (was now : FetchState) : Type 0 where
   more : List Hash256
@@ -27,15 +27,15 @@ twice was between now first then = record {
   flight = then.flight ∙ first.flight;
 }
 
-all : (fetch : FetchState) (hashes : List Hash256) → Grown fetch (wanting_all fetch hashes)
+all : (fetch : FetchState) (hashes : List Hash256) → Grown fetch (fold wanting fetch hashes)
 all fetch [] = record { more = []; wanted = sym (append-nil fetch.wanted); flight = refl }
-all fetch (hash ∷ hashes) = twice fetch (wanting fetch hash) (wanting_all (wanting fetch hash) hashes) (one fetch hash) (all (wanting fetch hash) hashes)
+all fetch (hash ∷ hashes) = twice fetch (wanting fetch hash) (fold wanting (wanting fetch hash) hashes) (one fetch hash) (all (wanting fetch hash) hashes)
 
-pub same_flight : (fetch now : FetchState) (hashes : List Hash256) → now ≡ wanting_all fetch hashes → now.flight ≡ fetch.flight
-same_flight fetch now hashes is = ap (λ (f : FetchState). f.flight) is ∙ (all fetch hashes).flight
+pub same_flight_each : (fetch now : FetchState) (hashes : List Hash256) → now ≡ fold wanting fetch hashes → now.flight ≡ fetch.flight
+same_flight_each fetch now hashes is = ap (λ (f : FetchState). f.flight) is ∙ (all fetch hashes).flight
 
-pub same_front : (fetch now : FetchState) (hashes : List Hash256) → now ≡ wanting_all fetch hashes → take (length fetch.wanted) now.wanted ≡ fetch.wanted
-same_front fetch now hashes is =
+pub same_front_each : (fetch now : FetchState) (hashes : List Hash256) → now ≡ fold wanting fetch hashes → take (length fetch.wanted) now.wanted ≡ fetch.wanted
+same_front_each fetch now hashes is =
     let grown = all fetch hashes in
     ap (λ (f : FetchState). take (length fetch.wanted) f.wanted) is
     ∙ ap (take (length fetch.wanted)) grown.wanted

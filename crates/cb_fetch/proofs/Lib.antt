@@ -1,7 +1,10 @@
 pub mod Falling
 pub mod Grown
+pub mod Last
+pub mod Leaving
 pub mod Limits
 pub mod Needed
 pub mod Once
 pub mod Rooms
+pub mod Standing
 pub mod Still

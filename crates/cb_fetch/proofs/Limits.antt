@@ -3,9 +3,9 @@ use Rattle.std.proofs.Common.{◌≡◌, Bool, true, false, List, [], ◌∷◌,
 use Rattle.std.specs.Prelude.{fold, nat_lt}
 use Rattle.std.proofs.lemmas.Bool.{cases_Bool, ltb-true}
 use Rattle.cb_base.specs.declared.hash.Hash256.{Hash256}
-use Rattle.cb_fetch.specs.Fetching.{FetchState, IsFetch, IsReached, fallen_back, has, idle, is_fetched, taking_on, wanting, wanting_all, with_wanted}
-use Rattle.cb_fetch.specs.Fetching.IsReached.{opening, wants, lands as came, falls_back, takes_on}
-use Rattle.cb_fetch.proofs.Once.{flies, is_wanted, lands, neither}
+use Rattle.cb_fetch.specs.Fetching.{FetchState, IsFetch, IsReached, fallen_back, has, idle, is_fetched, taking_on, wanting, wanting_all, with_wanted, without}
+use Rattle.cb_fetch.specs.Fetching.IsReached.{opening, wants, joins, lands as came, falls_back, takes_on}
+use Rattle.cb_fetch.proofs.Once.{flies, is_wanted, lands, leaves, neither}
 
 stays_wanted : (fetch : FetchState) (hash : Hash256) → IsFetch fetch → has fetch.wanted hash ≡ false → IsFetch (with_wanted fetch hash)
 stays_wanted fetch hash is fresh =
@@ -58,7 +58,8 @@ idle_is = record { flight = omega arith; wanted = omega arith; flight_once = tt;
 
 pub within : (fetch : FetchState) → IsReached fetch → IsFetch fetch
 within fetch opening = idle_is
-within fetch (wants old hashes r) = folds wanting wants_one old hashes (within old r)
+within fetch (wants old hashes r) = folds wanting wants_one (without old hashes) hashes (leaves old hashes (within old r))
+within fetch (joins old hash r) = wants_one old hash (within old r)
 within fetch (came old hash r) = lands old hash (within old r)
 within fetch (falls_back old hash r) = falls_one old hash (within old r)
 within fetch (takes_on old hashes r) = folds taking_on takes_one idle hashes idle_is
@@ -70,6 +71,9 @@ flight_of fetch hash true room e f = rw e refl
 flight_of fetch hash false true e f = rw (e, f) refl
 flight_of fetch hash false false e f = rw (e, f) refl
 
+flight_stays_each : (fetch : FetchState) (hashes : List Hash256) → (fold wanting fetch hashes).flight ≡ fetch.flight
+flight_stays_each fetch [] = refl
+flight_stays_each fetch (hash ∷ hashes) = flight_stays_each (wanting fetch hash) hashes ∙ flight_of fetch hash (is_fetched fetch hash) (nat_lt (length fetch.wanted) 2000) refl refl
+
 pub flight_stays : (fetch : FetchState) (hashes : List Hash256) → (wanting_all fetch hashes).flight ≡ fetch.flight
-flight_stays fetch [] = refl
-flight_stays fetch (hash ∷ hashes) = flight_stays (wanting fetch hash) hashes ∙ flight_of fetch hash (is_fetched fetch hash) (nat_lt (length fetch.wanted) 2000) refl refl
+flight_stays fetch hashes = flight_stays_each (without fetch hashes) hashes

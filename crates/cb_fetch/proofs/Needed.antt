@@ -12,7 +12,7 @@ use Rattle.cb_fetch.proofs.Once.{different_last, neither, none_of}
 -- ---- of a list that grows, a beginning
 
 -- it is there, or was before one more came
-take_with : (n : ℕ) (xs : List Hash256) (hash : Hash256) → take n (xs ++ hash ∷ []) ≡ cond (nat_lt (length (take n xs)) n) (take n xs ++ hash ∷ []) (take n xs)
+pub take_with : (n : ℕ) (xs : List Hash256) (hash : Hash256) → take n (xs ++ hash ∷ []) ≡ cond (nat_lt (length (take n xs)) n) (take n xs ++ hash ∷ []) (take n xs)
 take_with n xs hash =
     elim (cases_lt (length xs) n) [
       | inl room ↦
@@ -25,7 +25,7 @@ take_with n xs hash =
           rw (le-ltb (length (take n xs)) n none) (take-append-le n xs (hash ∷ []) full)
     ]
 
-drop_none : (n : ℕ) (xs : List Hash256) → length xs ≤ n → drop n xs ≡ []
+pub drop_none : (n : ℕ) (xs : List Hash256) → length xs ≤ n → drop n xs ≡ []
 drop_none n xs few = nothing (drop n xs) (omega (arith, length-drop n xs, few))
   where
     nothing : (ys : List Hash256) → length ys ≡ 0 → ys ≡ []
@@ -34,7 +34,7 @@ drop_none n xs few = nothing (drop n xs) (omega (arith, length-drop n xs, few))
 
 -- ---- what isn't in a list isn't in a part of it
 
-lacks_both : (n : ℕ) (xs : List Hash256) (hash : Hash256) → has xs hash ≡ false → (has (take n xs) hash ≡ false) × (has (drop n xs) hash ≡ false)
+pub lacks_both : (n : ℕ) (xs : List Hash256) (hash : Hash256) → has xs hash ≡ false → (has (take n xs) hash ≡ false) × (has (drop n xs) hash ≡ false)
 lacks_both n xs hash e =
     neither (has (take n xs) hash) (has (drop n xs) hash) (sym (list_any-append (same hash) (take n xs) (drop n xs)) ∙ ap (λ (l : List Hash256). has l hash) (take-append-drop n xs) ∙ e)
 

@@ -8,7 +8,7 @@ use Rattle.cb_base.specs.declared.hash.Hash256.{Hash256}
 use Rattle.cb_chain.specs.Entries.{same}
 use Rattle.cb_chain.proofs.BlockIndexes.{same-symm}
 use Rattle.cb_payload.specs.declared.inventory.Inventory.{Inventory}
-use Rattle.cb_fetch.specs.Fetching.{AreDifferent, FetchState, IsFetch, block_in, blocks_in, has, idle, landed, taken_on, taking_on, with_flight, with_wanted}
+use Rattle.cb_fetch.specs.Fetching.{AreDifferent, FetchState, IsFetch, block_in, blocks_in, has, idle, keeps_place, landed, taken_on, taking_on, with_flight, with_wanted, without}
 
 pub neither : (a b : Bool) → (a || b) ≡ false → (a ≡ false) × (b ≡ false)
 neither true b e = absurd (false≢true (sym e))
@@ -34,7 +34,7 @@ different_last (x ∷ xs) hash are lacks =
 
 -- ---- some that are left out
 
-lacks_filtered : (keeps : Hash256 → Bool) (xs : List Hash256) (other : Hash256) → has xs other ≡ false → has (filter keeps xs) other ≡ false
+pub lacks_filtered : (keeps : Hash256 → Bool) (xs : List Hash256) (other : Hash256) → has xs other ≡ false → has (filter keeps xs) other ≡ false
 lacks_filtered keeps [] other lacks = lacks
 lacks_filtered keeps (x ∷ xs) other lacks =
     let parts = neither (same other x) (has xs other) lacks in
@@ -43,7 +43,7 @@ lacks_filtered keeps (x ∷ xs) other lacks =
       | inr isnt ↦ rw isnt (lacks_filtered keeps xs other parts.1)
     ]
 
-different_filtered : (keeps : Hash256 → Bool) (xs : List Hash256) → AreDifferent xs → AreDifferent (filter keeps xs)
+pub different_filtered : (keeps : Hash256 → Bool) (xs : List Hash256) → AreDifferent xs → AreDifferent (filter keeps xs)
 different_filtered keeps [] are = are
 different_filtered keeps (x ∷ xs) are =
     elim (cases_Bool (keeps x)) [
@@ -51,7 +51,7 @@ different_filtered keeps (x ∷ xs) are =
       | inr isnt ↦ rw isnt (different_filtered keeps xs are.1)
     ]
 
-filtered_few : (keeps : Hash256 → Bool) (xs : List Hash256) → length (filter keeps xs) ≤ length xs
+pub filtered_few : (keeps : Hash256 → Bool) (xs : List Hash256) → length (filter keeps xs) ≤ length xs
 filtered_few keeps [] = omega arith
 filtered_few keeps (x ∷ xs) =
     let few = filtered_few keeps xs in
@@ -71,6 +71,14 @@ lands fetch hash is =
       flight_once = different_filtered keeps fetch.flight is.flight_once;
       wanted_once = is.wanted_once;
     }
+
+pub leaves : (fetch : FetchState) (hashes : List Hash256) → IsFetch fetch → IsFetch (without fetch hashes)
+leaves fetch hashes is = record {
+  flight = is.flight;
+  wanted = omega (arith, filtered_few (keeps_place fetch hashes) fetch.wanted, is.wanted);
+  flight_once = is.flight_once;
+  wanted_once = different_filtered (keeps_place fetch hashes) fetch.wanted is.wanted_once;
+}
 
 pub flies : (fetch : FetchState) (hash : Hash256) → IsFetch fetch → has fetch.flight hash ≡ false → length fetch.flight < 16 → IsFetch (with_flight fetch hash)
 flies fetch hash is fresh room = record {

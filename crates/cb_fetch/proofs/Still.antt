@@ -1,11 +1,11 @@
 -- Where no block becomes wanted, and where no block is named.
 use Rattle.std.proofs.Common.{◌≡◌, ◌⊎◌, ℕ, zero, suc, ◌+◌, ◌≤◌, ◌<◌, Bool, true, false, cond, List, [], ◌∷◌, ◌++◌, length, take, get_or, refl, sym, ap, ◌∙◌, arith, inl, inr}
-use Rattle.std.specs.Prelude.{nat_lt}
+use Rattle.std.specs.Prelude.{fold, nat_lt}
 use Rattle.std.proofs.lemmas.List.{length-append}
 use Rattle.cb_base.specs.declared.hash.Hash256.{Hash256}
 use Rattle.cb_payload.specs.declared.inventory.Inventory.{Inventory}
 use Rattle.cb_payload.specs.declared.inventory.Inventory.TheVariants.{Block, CompactBlock, Other, Tx}
-use Rattle.cb_fetch.specs.Fetching.{FetchState, block_in, blocks_in, is_fetched, wanting, wanting_all}
+use Rattle.cb_fetch.specs.Fetching.{FetchState, block_in, blocks_in, is_fetched, wanting}
 
 -- nothing changes, or one more is wanted
 same_or_more : (found room : Bool) (fetch more : FetchState) → length more.wanted ≡ length fetch.wanted + 1
@@ -28,26 +28,26 @@ one_no_fewer fetch hash =
       | inr more ↦ omega (arith, more)
     ]
 
-pub no_fewer : (fetch : FetchState) (hashes : List Hash256) → length fetch.wanted ≤ length (wanting_all fetch hashes).wanted
-no_fewer fetch [] = omega arith
-no_fewer fetch (hash ∷ hashes) = omega (arith, one_no_fewer fetch hash, no_fewer (wanting fetch hash) hashes)
+pub no_fewer_each : (fetch : FetchState) (hashes : List Hash256) → length fetch.wanted ≤ length (fold wanting fetch hashes).wanted
+no_fewer_each fetch [] = omega arith
+no_fewer_each fetch (hash ∷ hashes) = omega (arith, one_no_fewer fetch hash, no_fewer_each (wanting fetch hash) hashes)
 
 -- if no more are wanted in the end, none became so at any place
-still_at : (fetch : FetchState) (hashes : List Hash256) (k : ℕ) (none : Hash256) → k < length hashes → length (wanting_all fetch hashes).wanted ≤ length fetch.wanted
-    → wanting (wanting_all fetch (take k hashes)) (get_or hashes k none) ≡ wanting_all fetch (take k hashes)
+still_at : (fetch : FetchState) (hashes : List Hash256) (k : ℕ) (none : Hash256) → k < length hashes → length (fold wanting fetch hashes).wanted ≤ length fetch.wanted
+    → wanting (fold wanting fetch (take k hashes)) (get_or hashes k none) ≡ fold wanting fetch (take k hashes)
 still_at fetch [] k none low few = absurd (omega (arith, low))
 still_at fetch (hash ∷ hashes) zero none low few =
     elim (one_more fetch hash) [
       | inl same ↦ same
-      | inr more ↦ absurd (omega (arith, more, few, no_fewer (wanting fetch hash) hashes))
+      | inr more ↦ absurd (omega (arith, more, few, no_fewer_each (wanting fetch hash) hashes))
     ]
 still_at fetch (hash ∷ hashes) (suc k) none low few =
     still_at (wanting fetch hash) hashes k none (omega (arith, low)) (omega (arith, few, one_no_fewer fetch hash))
 
-pub still : (fetch now : FetchState) (hashes : List Hash256) (k : ℕ) (none : Hash256) → k < length hashes → now ≡ wanting_all fetch (take k hashes) → wanting_all fetch hashes ≡ fetch
+pub still_each : (fetch now : FetchState) (hashes : List Hash256) (k : ℕ) (none : Hash256) → k < length hashes → now ≡ fold wanting fetch (take k hashes) → fold wanting fetch hashes ≡ fetch
     → wanting now (get_or hashes k none) ≡ now
-still fetch now hashes k none low was same =
-    let long : length (wanting_all fetch hashes).wanted ≡ length fetch.wanted = ap (λ (f : FetchState). length f.wanted) same in
+still_each fetch now hashes k none low was same =
+    let long : length (fold wanting fetch hashes).wanted ≡ length fetch.wanted = ap (λ (f : FetchState). length f.wanted) same in
     ap (λ (f : FetchState). wanting f (get_or hashes k none)) was ∙ still_at fetch hashes k none low (omega (arith, long)) ∙ sym was
 
 -- no entry names a block

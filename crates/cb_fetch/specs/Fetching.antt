@@ -58,13 +58,30 @@ with_wanted fetch hash =
     then record { flight = fetch.flight; wanted = fetch.wanted ++ hash ∷ [] }
     else fetch
 
--- a block is missing: it becomes wanted, unless it is in flight or wanted
+-- a block is missing: it becomes wanted, as the last, unless it is in flight or wanted
 abbrev pub wanting : FetchState → Hash256 → FetchState
 wanting fetch hash = if is_fetched fetch hash then fetch else with_wanted fetch hash
 
--- several missing blocks, in order
+-- the block isn't among these, or it is in flight
+abbrev pub keeps_place : FetchState → List Hash256 → Hash256 → Bool
+keeps_place fetch hashes hash = has fetch.flight hash || not (has hashes hash)
+
+-- these blocks are no longer wanted, those in flight excepted
+abbrev pub without : FetchState → List Hash256 → FetchState
+without fetch hashes = record {
+  flight = fetch.flight;
+  wanted = filter (keeps_place fetch hashes) fetch.wanted;
+}
+
+-- some of these blocks are wanted and not in flight
+abbrev pub moves_some : FetchState → List Hash256 → Bool
+moves_some fetch hashes =
+    list_any (λ hash. not (has fetch.flight hash) && has fetch.wanted hash) hashes
+
+-- A `headers` message lists several missing blocks, parents first. They become the last wanted
+-- ones, in this order, also those that were wanted before. What is in flight stays as it is.
 abbrev pub wanting_all : FetchState → List Hash256 → FetchState
-wanting_all fetch hashes = fold wanting fetch hashes
+wanting_all fetch hashes = fold wanting (without fetch hashes) hashes
 
 -- a block is still needed: it goes in flight if fewer than 16 are, and otherwise becomes wanted, if
 -- fewer than 2,000 are
@@ -138,6 +155,7 @@ pub data IsReached : FetchState → Type 0 where
   opening : IsReached idle
   wants : (fetch : FetchState) (hashes : List Hash256) → IsReached fetch
       → IsReached (wanting_all fetch hashes)
+  joins : (fetch : FetchState) (hash : Hash256) → IsReached fetch → IsReached (wanting fetch hash)
   lands : (fetch : FetchState) (hash : Hash256) → IsReached fetch → IsReached (landed hash fetch)
   falls_back : (fetch : FetchState) (hash : Hash256) → IsReached fetch
       → IsReached (fallen_back hash fetch)

@@ -1,11 +1,14 @@
-ghost use Rattle.std.specs.Prelude.{◌≡◌, ◌≤◌, ◌<◌, [], false, fold, length, nat_lt, take, IfOk, IsOk, IsOkUnless, OnErr, OnOk};
+ghost use Rattle.std.specs.Prelude.{◌≡◌, ◌≤◌, ◌<◌, [], Some, true, false, fold, is_some, length, nat_lt, take, IfOk, IfSome, IsOk, IsOkUnless, OnErr, OnOk};
+ghost use Rattle.std.specs.HashSet.{hasher_of};
 ghost use Rattle.cb_base.specs.declared.fault.Fault.TheVariants.{Memory};
-ghost use Rattle.cb_fetch.specs.Fetching.{as_blocks, asks_now, block_in, blocks_in, fallen_back, has, idle, is_due, is_fetched, landed, leaves_out, request_of, requests_of, taken_on, taking_on, wanting, wanting_all, wants_none, with_flight, with_wanted};
+ghost use Rattle.cb_fetch.specs.Fetching.{as_blocks, asks_now, block_in, blocks_in, fallen_back, has, idle, is_due, is_fetched, landed, leaves_out, request_of, requests_of, taken_on, taking_on, wanting, wanting_all, wants_none, with_flight, with_wanted, without};
+ghost use Rattle.cb_fetch.specs.Standing.{first_place, is_passed, place_of, stand_last};
 
 use cb_base::{Fault, Hash256, Seed};
 use cb_payload::{Entries, Inventory};
 use indexmap::IndexSet;
 use std::alloc::Global;
+use std::collections::HashSet;
 use std::marker::Model;
 
 /// The largest number of blocks in flight. This limit is the program's own.
@@ -117,7 +120,7 @@ impl Fetch {
     fn is_in_flight(&self, hash: &Hash256) -> bool
         ensures { result ≡ has self.now.flight hash.now }
     {
-        self.flight.iter().any(|other| *hash == *other)
+        stands_in(self.flight.as_slice(), hash)
     }
 
     /// Whether fewer than 16 blocks are in flight.
@@ -158,19 +161,22 @@ impl Fetch {
         Ok(())
     }
 
-    /// Appends a block to the wanted ones, unless it is in flight or wanted, or 2,000 are wanted.
+    /// Queues one block for download behind all others, as a block whose parent is in flight or
+    /// wanted needs it: it becomes wanted, as the last, unless it is in flight or wanted, or 2,000
+    /// are wanted.
+    ///
     /// Fails only with `Fault::Memory`, and never if nothing is to change. After an error nothing
     /// has changed.
-    fn want_one(&mut self, hash: Hash256) -> Result<(), Fault>
+    pub fn want_one(&mut self, hash: Hash256) -> Result<(), Fault>
         ensures wanted { OnOk result (self.new ≡ wanting self.old hash) }
         ensures memory { IsOkUnless result Memory }
         ensures err { OnErr result (self.new ≡ self.old) }
         ensures unpaid { wanting self.old hash ≡ self.old → IsOk result }
     {
-        if self.is_fetched(&hash) {
-            return Ok(());
+        if !self.is_fetched(&hash) {
+            self.put_wanted(hash)?;
         }
-        self.put_wanted(hash)
+        Ok(())
     }
 
     /// Puts a block in flight if fewer than 16 are, and otherwise appends it to the wanted ones, if
@@ -189,14 +195,70 @@ impl Fetch {
         self.put_wanted(hash)
     }
 
-    /// Queues blocks for download as `want` does. After an error the first of them may be wanted,
-    /// behind those that were.
+    /// The place of a block among the wanted ones.
+    fn place_of(&self, hash: &Hash256) -> Option<usize>
+        ensures place { result ≡ place_of self.now hash.now }
+        ensures within { IfSome result (λ place. place < length self.now.wanted) }
+        ensures few { length self.now.wanted ≤ 2000 }
+    {
+        self.wanted.get_index_of(hash)
+    }
+
+    /// The place among the wanted blocks of the first of these that is wanted and not in flight.
+    fn first_place(&self, hashes: &[Hash256]) -> Option<usize>
+        ensures place { result ≡ first_place self.now hashes.now }
+        ensures within { IfSome result (λ place. place < length self.now.wanted) }
+    {
+        for hash in hashes {
+            if self.is_in_flight(hash) {
+                continue;
+            }
+            let place = self.place_of(hash);
+            if place.is_some() {
+                return place;
+            }
+        }
+        None
+    }
+
+    /// Whether those of the blocks that aren't in flight are the last wanted ones, from the place
+    /// `first` on, in this order, so that `want` changes nothing. Looks each of them up.
+    fn stand_last(&self, first: usize, hashes: &[Hash256]) -> bool
+        ensures stand { result ≡ stand_last self.now first first hashes.now }
+        ensures few { length self.now.wanted ≤ 2000 }
+    {
+        let mut next = first;
+        for hash in hashes {
+            if self.is_in_flight(hash) {
+                continue;
+            }
+            let place = self.place_of(hash);
+            if place == Some(next) {
+                next += 1;
+            } else if !is_passed(first, next, place) {
+                return false;
+            }
+        }
+        next == self.wanted.len()
+    }
+
+    /// Takes those of the listed blocks that aren't in flight out of the wanted ones, in one pass.
+    fn forget(&mut self, listed: &HashSet<Hash256, Seed>)
+        ensures { self.new ≡ without self.old listed.now.keys }
+    {
+        let flight = self.flight.as_slice();
+        self.wanted
+            .retain(|hash| stands_in(flight, hash) || !listed.contains(hash));
+    }
+
+    /// Queues each of the blocks as `want_one` does. After an error the first of them may be
+    /// wanted, behind those that were.
     fn want_each(&mut self, hashes: &[Hash256]) -> Result<(), Fault>
-        ensures wanted { OnOk result (self.new ≡ wanting_all self.old hashes.now) }
+        ensures wanted { OnOk result (self.new ≡ fold wanting self.old hashes.now) }
         ensures memory { IsOkUnless result Memory }
         ensures flight { self.new.flight ≡ self.old.flight }
         ensures front { take (length self.old.wanted) self.new.wanted ≡ self.old.wanted }
-        ensures known { wanting_all self.old hashes.now ≡ self.old → IsOk result }
+        ensures known { fold wanting self.old hashes.now ≡ self.old → IsOk result }
     {
         for hash in hashes {
             self.want_one(*hash)?;
@@ -204,17 +266,13 @@ impl Fetch {
         Ok(())
     }
 
-    /// Queues missing blocks for download: each becomes wanted, in order, unless it is in flight or
-    /// wanted, or 2,000 are wanted.
-    ///
-    /// Fails only with `Fault::Memory`, and never if no block becomes wanted. After an error
-    /// nothing has changed.
-    pub fn want(&mut self, hashes: &[Hash256]) -> Result<(), Fault>
-        ensures wanted { OnOk result (self.new ≡ wanting_all self.old hashes.now) }
+    /// Queues each of the blocks as `want_one` does, or none of them. Fails only with
+    /// `Fault::Memory`, and never if no block becomes wanted. After an error nothing has changed.
+    fn append(&mut self, hashes: &[Hash256]) -> Result<(), Fault>
+        ensures wanted { OnOk result (self.new ≡ fold wanting self.old hashes.now) }
         ensures memory { IsOkUnless result Memory }
         ensures err { OnErr result (self.new ≡ self.old) }
-        ensures unpaid { length hashes.now ≡ 0 → IsOk result }
-        ensures known { wanting_all self.old hashes.now ≡ self.old → IsOk result }
+        ensures known { fold wanting self.old hashes.now ≡ self.old → IsOk result }
     {
         let before = self.wanted.len();
         match self.want_each(hashes) {
@@ -223,6 +281,41 @@ impl Fetch {
                 self.wanted.truncate(before);
                 Err(fault)
             }
+        }
+    }
+
+    /// Does what `want` does over a copy, so that after an error nothing has changed. Fails only
+    /// with `Fault::Memory`.
+    fn rearrange(&mut self, hashes: &[Hash256]) -> Result<(), Fault>
+        ensures wanted { OnOk result (self.new ≡ wanting_all self.old hashes.now) }
+        ensures memory { IsOkUnless result Memory }
+        ensures err { OnErr result (self.new ≡ self.old) }
+    {
+        let listed = set_of(self.alloc, self.seed(), hashes)?;
+        let mut next = self.copy(self.alloc)?;
+        next.forget(&listed);
+        next.want_each(hashes)?;
+        *self = next;
+        Ok(())
+    }
+
+    /// Queues the missing blocks that a `headers` message lists for download, in its order, which
+    /// is parents first. Those that aren't in flight become the last wanted ones, also if they were
+    /// wanted before; there is room for 2,000 wanted blocks. What is in flight stays as it is.
+    ///
+    /// Fails only with `Fault::Memory`, and never if nothing is to change. After an error nothing
+    /// has changed.
+    pub fn want(&mut self, hashes: &[Hash256]) -> Result<(), Fault>
+        ensures wanted { OnOk result (self.new ≡ wanting_all self.old hashes.now) }
+        ensures memory { IsOkUnless result Memory }
+        ensures err { OnErr result (self.new ≡ self.old) }
+        ensures unpaid { length hashes.now ≡ 0 → IsOk result }
+        ensures known { wanting_all self.old hashes.now ≡ self.old → IsOk result }
+    {
+        match self.first_place(hashes) {
+            None => self.append(hashes),
+            Some(first) if self.stand_last(first, hashes) => Ok(()),
+            Some(_) => self.rearrange(hashes),
         }
     }
 
@@ -334,6 +427,39 @@ impl Fetch {
             wanted,
         })
     }
+}
+
+/// Whether the hash is one of these few.
+fn stands_in(hashes: &[Hash256], hash: &Hash256) -> bool
+    ensures { result ≡ has hashes.now hash.now }
+{
+    hashes.iter().any(|other| *hash == *other)
+}
+
+/// Whether a block at this place among the wanted ones was passed between the places `first` and
+/// `next`, or isn't wanted and has no room.
+fn is_passed(first: usize, next: usize, place: Option<usize>) -> bool
+    ensures { result ≡ is_passed first next place }
+{
+    match place {
+        None => next >= MOST_WANTED,
+        Some(place) => first <= place && place < next,
+    }
+}
+
+/// The hash set of these hashes, under this seed. Fails only with `Fault::Memory`.
+fn set_of(alloc: Global, seed: Seed, hashes: &[Hash256]) -> Result<HashSet<Hash256, Seed>, Fault>
+    ensures hashes { IfOk result
+        (λ set. (hash : Hash256) → has set.keys hash ≡ has hashes.now hash) }
+    // The seed decides only how long a look-up takes. No result shows it, so it is fixed here.
+    ensures seed { IfOk result (λ set. hasher_of set ≡ seed) }
+    ensures memory { IsOkUnless result Memory }
+{
+    let mut set = HashSet::with_capacity_and_hasher(alloc, hashes.len(), seed)?;
+    for hash in hashes {
+        set.insert(*hash)?;
+    }
+    Ok(set)
 }
 
 /// The inventory entries of the blocks with these hashes. Fails only with `Fault::Memory`, and

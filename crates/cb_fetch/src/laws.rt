@@ -2,9 +2,9 @@
 //! use.
 //!
 //! Each law is the contract of a function that does nothing.
-ghost use Rattle.std.specs.Prelude.{◌≡◌, ◌≤◌, List, [], true, false, drop, length, take};
+ghost use Rattle.std.specs.Prelude.{◌≡◌, ◌≤◌, List, [], ◌++◌, true, false, drop, filter, length, not, take};
 ghost use Rattle.cb_base.specs.declared.hash.Hash256.{Hash256};
-ghost use Rattle.cb_fetch.specs.Fetching.{AreDifferent, FetchState, IsFetch, IsReached, asks_now, fallen_back, has, is_due, is_fetched, leaves_out, once, taken_on, wanting, wanting_all};
+ghost use Rattle.cb_fetch.specs.Fetching.{AreDifferent, FetchState, IsFetch, IsReached, asks_now, fallen_back, has, is_due, is_fetched, leaves_out, once, taken_on, wanting, wanting_all, without};
 
 use crate::fetch::Fetch;
 
@@ -52,7 +52,7 @@ pub fn what_falls_back_is_asked_for()
 {}
 
 /// A missing block is left out only where 2,000 blocks are wanted. All others are in flight or
-/// wanted, and what was so before stays so.
+/// wanted. What was in flight stays so, and what was wanted and isn't listed stays so.
 pub fn what_is_left_out_has_no_room()
     ensures full { (fetch : FetchState) (hashes : List Hash256) → length fetch.wanted ≤ 2000 →
         leaves_out (wanting_all fetch hashes) hashes ≡ true →
@@ -60,7 +60,31 @@ pub fn what_is_left_out_has_no_room()
     ensures others { (fetch : FetchState) (hashes : List Hash256) (hash : Hash256) →
         leaves_out fetch hashes ≡ false → has hashes hash ≡ true → is_fetched fetch hash ≡ true }
     ensures stays { (fetch : FetchState) (hashes : List Hash256) (hash : Hash256) →
-        is_fetched fetch hash ≡ true → is_fetched (wanting_all fetch hashes) hash ≡ true }
+        has hashes hash ≡ false → is_fetched fetch hash ≡ true →
+        is_fetched (wanting_all fetch hashes) hash ≡ true }
+    ensures flight { (fetch : FetchState) (hashes : List Hash256) (hash : Hash256) →
+        has fetch.flight hash ≡ true → has (wanting_all fetch hashes).flight hash ≡ true }
+{}
+
+/// Listed blocks are fetched in the order of the list, and so parents first: those that aren't in
+/// flight are the last wanted ones, each once, also those that were wanted before. All other wanted
+/// blocks stand before them, in their order. Only listed blocks that aren't in flight lose their
+/// places.
+pub fn what_is_listed_stands_last()
+    ensures last { (fetch : FetchState) (hashes : List Hash256) → length fetch.wanted ≤ 2000 →
+        (wanting_all fetch hashes).wanted
+        ≡ take 2000 ((without fetch hashes).wanted
+        ++ filter (λ hash. not (has fetch.flight hash)) (once hashes)) }
+    ensures unlisted { (fetch : FetchState) (hashes : List Hash256) (hash : Hash256) →
+        has hashes hash ≡ false → has (without fetch hashes).wanted hash ≡ has fetch.wanted hash }
+    ensures flying { (fetch : FetchState) (hashes : List Hash256) (hash : Hash256) →
+        has fetch.flight hash ≡ true →
+        has (without fetch hashes).wanted hash ≡ has fetch.wanted hash }
+    ensures others { (fetch : FetchState) (hashes : List Hash256) (hash : Hash256) →
+        has hashes hash ≡ true → has fetch.flight hash ≡ false →
+        has (without fetch hashes).wanted hash ≡ false }
+    ensures all { (hashes : List Hash256) (hash : Hash256) →
+        has (once hashes) hash ≡ has hashes hash }
 {}
 
 /// What is requested is what is needed: the first 16 different blocks are in flight, the next 2,000

@@ -9,5 +9,5 @@ mod laws;
 pub use fetch::{Fetch, MOST_IN_FLIGHT, MOST_WANTED};
 pub use laws::{
     each_is_fetched_once, limits_hold, none_is_asked_for_twice, what_falls_back_is_asked_for,
-    what_is_left_out_has_no_room, what_is_needed_is_fetched,
+    what_is_left_out_has_no_room, what_is_listed_stands_last, what_is_needed_is_fetched,
 };

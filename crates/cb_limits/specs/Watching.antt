@@ -1,5 +1,5 @@
 -- Which connections are late.
-use Rattle.std.specs.Prelude.{◌≡◌, ◌≢◌, ℕ, ◌+◌, ◌-◌, ◌≤◌, Bool, true, false, List, codes, Option, Some, None, unwrap_or, if◌then◌else◌, ◌==◌}
+use Rattle.std.specs.Prelude.{◌≡◌, ◌≢◌, ◌⊎◌, ℕ, ◌+◌, ◌-◌, ◌≤◌, Bool, true, false, List, codes, Option, Some, None, is_some, unwrap_or, if◌then◌else◌, ◌==◌}
 use Rattle.std.specs.Option.{option_or}
 use Rattle.cb_limits.specs.declared.limits.Limits.{Limits}
 use Rattle.cb_limits.specs.declared.watch.Cause.{Cause}
@@ -22,6 +22,10 @@ cause_text causes.Block = codes "BlockTimeout"
 abbrev pub waits_since : Option ℕ → Bool → ℕ → ℕ → Option ℕ
 waits_since before came flight now =
     if flight == 0 then None else (if came then Some now else Some (unwrap_or before now))
+
+-- since when something stands: never if it doesn't, else since before, or now if it didn't then
+abbrev pub stands_since : Option ℕ → Bool → ℕ → Option ℕ
+stands_since before stands now = if stands then Some (unwrap_or before now) else None
 
 -- how long an answer took that comes now
 abbrev pub took : Option ℕ → ℕ → Option ℕ
@@ -48,6 +52,8 @@ pub record IsNoted (sight : Sight) (now : ℕ) (old new : Watch) : Type 0 where
       → (new.pong ≡ option_or (took old.asked now) old.pong) × (new.asked ≡ None)
   pub unanswered : sight.pongs ≡ old.latest.pongs
       → (new.pong ≡ old.pong) × (new.asked ≡ old.asked)
+  -- its session waits for headers of what is unknown: that goes on, or begins
+  pub unknown : new.unknown ≡ stands_since old.unknown sight.unknown now
 
 -- ---- what is due
 
@@ -59,11 +65,12 @@ silent_since watch = unwrap_or watch.heard watch.made
 abbrev pub IsIdle : Limits → Watch → ℕ → Type 0
 IsIdle limits watch now = silent_since watch + limits.idle ≤ now
 
--- blocks are in flight, and none was given for as long as the operator says
+-- it was so for so many milliseconds
 abbrev pub HasWaited : Option ℕ → ℕ → ℕ → Type 0
 HasWaited None millis now = ⊥
 HasWaited (Some since) millis now = since + millis ≤ now
 
+-- blocks are in flight, and none was given for as long as the operator says
 abbrev pub Stalls : Limits → Watch → ℕ → Type 0
 Stalls limits watch now = HasWaited watch.waits limits.block now
 
@@ -81,10 +88,20 @@ IsLate limits watch other now causes.Idle = IsIdle limits watch now
 IsLate limits watch other now causes.Block = (other ≡ true) × Stalls limits watch now
 
 -- ready, silent for two minutes, and not probed since
-pub record WantsProbe (watch : Watch) (now : ℕ) : Type 0 where
+pub record IsQuiet (watch : Watch) (now : ℕ) : Type 0 where
   pub ready : watch.latest.ready ≡ true
   pub once : watch.probed ≡ false
   pub silent : silent_since watch + 120000 ≤ now
+
+-- ready, and its session has waited for half a minute for headers of what is unknown, since the
+-- latest probe if there was one
+pub record IsStuck (watch : Watch) (now : ℕ) : Type 0 where
+  pub ready : watch.latest.ready ≡ true
+  pub stands : HasWaited watch.unknown 30000 now
+
+-- its peer is to be asked for a sign of life
+abbrev pub WantsProbe : Watch → ℕ → Type 0
+WantsProbe watch now = IsQuiet watch now ⊎ IsStuck watch now
 
 -- no cause
 abbrev pub IsInTime : Limits → Watch → Bool → ℕ → Type 0
@@ -99,9 +116,17 @@ Decides limits watch other now dues.Probe =
 Decides limits watch other now dues.Nothing =
     IsInTime limits watch other now × (WantsProbe watch now → ⊥)
 
--- a probe counts as sent now
+-- A probe is sent now. A session forgets by it that it waits for headers of what is unknown, so
+-- what still stands is counted from now on.
+abbrev pub probed : Watch → ℕ → Watch
+probed watch now = record watch {
+  probed = true;
+  asked = Some (unwrap_or watch.asked now);
+  unknown = stands_since None (is_some watch.unknown) now;
+}
+
+-- a probe that is due counts as sent now
 abbrev pub marked : Watch → ℕ → Due → Watch
 marked watch now dues.Nothing = watch
-marked watch now dues.Probe =
-    record watch { probed = true; asked = Some (unwrap_or watch.asked now) }
+marked watch now dues.Probe = probed watch now
 marked watch now (dues.End cause) = watch

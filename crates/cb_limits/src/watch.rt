@@ -1,11 +1,15 @@
 //! Which connections are late.
 ghost use Rattle.std.specs.Prelude.{◌≡◌, ◌+◌, ◌↔◌, ◌≤◌, false, IsTrue, None};
-ghost use Rattle.cb_limits.specs.Watching.{Decides, IsAble, IsIdle, IsNoted, Stalls, WantsProbe, cause_text, marked, silent_since, took, waits_since};
+ghost use Rattle.cb_limits.specs.Watching.{Decides, IsAble, IsIdle, IsNoted, IsQuiet, IsStuck, Stalls, WantsProbe, cause_text, marked, probed, silent_since, stands_since, took, waits_since};
 
 use crate::limits::Limits;
 
 /// A peer that has said nothing for so many milliseconds is sent a `ping` (BIP 31).
 const PROBE_MILLISECONDS: u64 = 120_000;
+
+/// For so many milliseconds a session waits for headers of what is unknown. A `ping` then makes it
+/// ask again at the next cause.
+const UNKNOWN_MILLISECONDS: u64 = 30_000;
 
 /// Why a connection is ended.
 #[derive(Clone, Copy, Debug, PartialEq, Eq)]
@@ -55,6 +59,8 @@ pub struct Sight {
     pub flight: u64,
     /// How many `pong` messages came so far.
     pub pongs: u64,
+    /// Whether its session asked for headers since something is unknown, and has no answer yet.
+    pub unknown: bool,
 }
 
 /// What is remembered of a connection, so that a silent one ends. Times are in milliseconds since
@@ -73,6 +79,8 @@ pub struct Watch {
     pub asked: Option<u64>,
     /// How long its latest `pong` took behind the first probe that it answers.
     pub pong: Option<u64>,
+    /// Since when its session waits for headers of what is unknown. A probe begins this anew.
+    pub unknown: Option<u64>,
     /// What was seen of it last.
     pub latest: Sight,
 }
@@ -82,9 +90,10 @@ impl Watch {
     pub fn new(now: u64) -> Watch
         ensures { (result.made ≡ now) × (result.heard ≡ None) × (result.waits ≡ None)
             × (result.probed ≡ false) × (result.asked ≡ None) × (result.pong ≡ None)
-            × (result.latest.ready ≡ false) × (result.latest.messages ≡ 0)
-            × (result.latest.blocks ≡ 0) × (result.latest.flight ≡ 0)
-            × (result.latest.pongs ≡ 0) }
+            × (result.unknown ≡ None) × (result.latest.ready ≡ false)
+            × (result.latest.messages ≡ 0) × (result.latest.blocks ≡ 0)
+            × (result.latest.flight ≡ 0) × (result.latest.pongs ≡ 0)
+            × (result.latest.unknown ≡ false) }
     {
         Watch {
             made: now,
@@ -93,12 +102,14 @@ impl Watch {
             probed: false,
             asked: None,
             pong: None,
+            unknown: None,
             latest: Sight {
                 ready: false,
                 messages: 0,
                 blocks: 0,
                 flight: 0,
                 pongs: 0,
+                unknown: false,
             },
         }
     }
@@ -121,7 +132,17 @@ impl Watch {
             sight.flight,
             now,
         );
+        self.unknown = stands_since(self.unknown, sight.unknown, now);
         self.latest = sight;
+    }
+
+    /// Its peer is asked for a sign of life now.
+    pub fn probe(&mut self, now: u64)
+        ensures { self.new ≡ probed self.old now }
+    {
+        self.probed = true;
+        self.asked = Some(self.asked.unwrap_or(now));
+        self.unknown = stands_since(None, self.unknown.is_some(), now);
     }
 
     /// Since when the peer is silent.
@@ -155,8 +176,7 @@ impl Watch {
             return Due::End(Cause::Block);
         }
         if self.wants_probe(now) {
-            self.probed = true;
-            self.asked = Some(self.asked.unwrap_or(now));
+            self.probe(now);
             return Due::Probe;
         }
         Due::Nothing
@@ -183,9 +203,37 @@ impl Watch {
     fn wants_probe(&self, now: u64) -> bool
         ensures { IsTrue result ↔ WantsProbe self.now now }
     {
+        self.is_quiet(now) || self.is_stuck(now)
+    }
+
+    /// Whether its peer has said nothing for so long that it is asked for a sign of life.
+    fn is_quiet(&self, now: u64) -> bool
+        ensures { IsTrue result ↔ IsQuiet self.now now }
+    {
         self.latest.ready
             && !self.probed
             && have_passed(self.silent_since(), PROBE_MILLISECONDS, now)
+    }
+
+    /// Whether its session waits for headers of what is unknown for too long.
+    fn is_stuck(&self, now: u64) -> bool
+        ensures { IsTrue result ↔ IsStuck self.now now }
+    {
+        match self.unknown {
+            Some(since) => self.latest.ready && have_passed(since, UNKNOWN_MILLISECONDS, now),
+            None => false,
+        }
+    }
+}
+
+/// Since when something stands that stood since a time before, or not, and stands now or not.
+fn stands_since(before: Option<u64>, stands: bool, now: u64) -> Option<u64>
+    ensures { result ≡ stands_since before stands now }
+{
+    if stands {
+        Some(before.unwrap_or(now))
+    } else {
+        None
     }
 }
 

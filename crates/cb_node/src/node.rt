@@ -7,21 +7,19 @@ ghost use Rattle.cb_node.specs.Node.{HasFinished, with_time};
 
 use crate::opening::NodeWork;
 use crate::serving::Service;
-use cb_base::Shared;
+use cb_base::{Hash256, Shared};
 use cb_block::SoundBlock;
 use cb_crew::{Desk, Fresh, Handler, ReaderSide};
 use cb_hall::{Hall, Look};
 use cb_journal::{Answer, Local};
-use cb_peers::{NodeBytes, finish_peers};
+use cb_peers::{NodeBytes, TICKS_A_HANDLER, finish_peers};
 use cb_reader::Input;
 use cb_service::{Handling, join_handlers};
 use cb_slots::{Common, Listening, NodeFault, Slot, sides_of};
+use cb_work::{Seen, submit_and_see, tip_word};
 use std::marker::{Copy, Model, Send};
 use std::sync::{Mutex, Wait};
 use std::thread::Threads;
-
-/// For how many ticks that are due one handler is woken.
-const TICKS_A_HANDLER: u32 = 64;
 
 /// What is left of a node that has finished.
 #[derive(Drop)]
@@ -86,18 +84,42 @@ impl<R: Threads + Wait + Copy + Send + Drop + 'static> Node<R> {
         self.service.settings = self.service.settings.at(time);
     }
 
-    /// Takes a transaction or a block from the node's own user. Peers are told of it by the next
-    /// tick.
+    /// Takes a transaction or a block from the node's own user. Peers are told of a new tip at once
+    /// if the settings say so, and else of all by the next tick.
     ///
     /// Fails with `Fault::JournalFull` of the hall, and with `NodeFault::Memory`.
     pub fn submit(&self, local: Local) -> Result<Answer, NodeFault>
         ensures { IfErr result
             (λ fault. (fault ≡ told.Hall faults.JournalFull) ⊎ (fault ≡ Memory)) }
     {
-        Ok(self.service.hall.lock(&self.service.rt).submit(local)?)
+        let seen = self.submit_in_hall(local)?;
+        if let Some(tip) = seen.tip {
+            self.hop(&tip);
+        }
+        Ok(seen.answer)
     }
 
-    /// Makes a tick of each slot's latest connection due: its session tells its peer what is new.
+    /// Takes a transaction or a block in the hall.
+    fn submit_in_hall(&self, local: Local) -> Result<Seen, NodeFault>
+        ensures { IfErr result
+            (λ fault. (fault ≡ told.Hall faults.JournalFull) ⊎ (fault ≡ Memory)) }
+    {
+        let mut hall = self.service.hall.lock(&self.service.rt);
+        Ok(submit_and_see(&mut *hall, local)?)
+    }
+
+    /// Has the peers told at once that lack this new tip, if the settings say so.
+    fn hop(&self, tip: &Hash256) {
+        if self.service.settings.prompt {
+            let service = &self.service;
+            service
+                .links
+                .tell_tip(&service.rt, &self.common.signals, tip_word(tip));
+        }
+    }
+
+    /// Makes a tick of each slot's latest connection due: its session tells its peer what is new,
+    /// as transactions, and tips that were passed over.
     /// A handler is woken for each 64 of them, since each that wakes goes round all slots.
     pub fn tick(&self) {
         let signals = &self.common.signals;

@@ -21,6 +21,8 @@ pub struct NodeSettings {
     pub outbound: u16,
     /// How many handler threads serve the slots, 1 to 16.
     pub handlers: u16,
+    /// Whether peers are told of a new tip at once. Else they are told by the next tick.
+    pub prompt: bool,
 }
 
 impl NodeSettings {

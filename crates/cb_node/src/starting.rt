@@ -96,6 +96,7 @@ fn man<R: Threads + Wait + Copy + Send + Drop + 'static>(
         service.alloc,
         &common,
         &service.links,
+        service.settings.prompt,
         handlers,
     ) {
         Ok(handling) => Ok(Node {

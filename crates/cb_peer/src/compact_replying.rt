@@ -5,20 +5,20 @@ ghost use Rattle.cb_chain.specs.Entries.{block_hash};
 ghost use Rattle.cb_wire.specs.declared.item.Item.{Item};
 ghost use Rattle.cb_peer_state.specs.Outcomes.{IsLightOutcome, Makes};
 ghost use Rattle.cb_peer_state.specs.Questions.{short_in, sought_for};
-ghost use Rattle.cb_peer_state.specs.Session.{weighs_short};
-ghost use Rattle.cb_peer_state.specs.Replying.{before_parent, excerpt_answered, given_told, pairs_told, short_told};
-ghost use Rattle.cb_peer_state.specs.State.{unless_remembered};
+ghost use Rattle.cb_peer_state.specs.Session.{weighs_child, weighs_short};
+ghost use Rattle.cb_peer_state.specs.Replying.{excerpt_answered, given_told, pairs_told, short_told};
 
 use cb_base::{Fault, Shared};
+use cb_block::Header;
 use cb_journal::{Question, Sought};
-use cb_payload::{HeaderAndShortIds, Locator};
+use cb_payload::HeaderAndShortIds;
 use cb_peer_state::{
-    CloseReason, NextQuestion, Reaction, SessionState, Stage, one_message, push_some,
+    CloseReason, NextQuestion, Reaction, SessionState, Stage, is_orphan, one_message, push_some,
 };
 use cb_pool::{Pairs, ShortIds};
 use cb_rebuild::{Rebuilt, rebuild};
 use cb_state::{Excerpt, Heads, Taken};
-use cb_talk::{Outgoing, asking_headers, asking_txs, send_excerpt};
+use cb_talk::{asking_txs, send_excerpt};
 use cb_wire::{Item, Message};
 use std::alloc::Global;
 
@@ -39,32 +39,9 @@ pub(crate) fn short_in(item: &Option<Shared<Item>>) -> Option<&HeaderAndShortIds
     Some(short)
 }
 
-/// The request for the headers before one with an unknown parent, unless the session remembers a
-/// header. Fails only with `Fault::Memory`, and never if nothing is requested.
-fn requests_before(
-    session: &SessionState,
-    alloc: Global,
-    refused: Option<Fault>,
-    locator: &Locator,
-) -> Result<Vec<Outgoing>, Fault>
-    ensures messages { IfOk result (λ made.
-        made.items ≡ unless_remembered session.now (before_parent refused locator.now)) }
-    ensures memory { IsOkUnless result Memory }
-    ensures silent { unless_remembered session.now (before_parent refused locator.now) ≡ [] →
-        IsOk result }
-{
-    if session.remembers() {
-        return Ok(Vec::new(alloc));
-    }
-    if refused == Some(Fault::NoParent) {
-        return one_message(alloc, asking_headers(locator.copy(alloc)?));
-    }
-    Ok(Vec::new(alloc))
-}
-
 /// Handles the hall's answer about the header of a compact block. One without work ends the
-/// session. For an unknown parent the headers before it are requested. If the block isn't missing,
-/// it is no longer in flight. Else the mempool is searched for its transactions.
+/// session. For an unknown parent headers are requested, if they may be. If the block isn't
+/// missing, it is no longer in flight. Else the mempool is searched for its transactions.
 ///
 /// Fails only with `Fault::Memory`, and never for a header without work.
 #[tactic(auto, unfolding(cb_peer_state::specs::Replying::short_told))]
@@ -85,7 +62,7 @@ pub(crate) fn hear_short_heads(
     if heads.refused == Some(Fault::BadWork) {
         return Ok(session.end_by(alloc, CloseReason::BadBlock));
     }
-    let messages = requests_before(session, alloc, heads.refused, &heads.locator)?;
+    let messages = session.search(alloc, is_orphan(heads.refused), &heads.locator)?;
     if heads.lack.as_slice().is_empty() {
         session.fetch.land(&short.header.hash());
         return session.end(alloc, messages);
@@ -152,23 +129,28 @@ pub(crate) fn hear_pairs(
     }
 }
 
-/// Handles the result of a rebuilt block. A refused one isn't held against the peer. For an unknown
-/// parent the headers before it are requested. Fails only with `Fault::Memory`.
+/// Handles the result of a rebuilt block, which has this header. A refused one isn't held against
+/// the peer. If its parent is unknown it waits for it, or headers are requested. Fails only with
+/// `Fault::Memory`.
 #[tactic(auto, unfolding(cb_peer_state::specs::Replying::given_told))]
 pub(crate) fn hear_given(
-    session: &SessionState,
+    session: &mut SessionState,
     alloc: Global,
+    header: &Header,
     taken: &Taken,
 ) -> Result<Reaction, Fault>
     ensures ok { (item : Option Item) → IfOk result
-        (λ made. Makes (given_told session.now taken.now.refused taken.now.locator)
-        item session.now made.messages.items made.next) }
+        (λ made. Makes (given_told session.old header.now taken.now.refused taken.now.locator)
+        item session.new made.messages.items made.next) }
     ensures memory { IsOkUnless result Memory }
-    ensures silent { IsLightOutcome (given_told session.now taken.now.refused taken.now.locator) →
+    ensures silent { weighs_child session.old (Some header.now) taken.now.refused ≡ false →
+        IsLightOutcome (given_told session.old header.now taken.now.refused taken.now.locator) →
         IsOk result }
 {
-    let messages = requests_before(session, alloc, taken.refused, &taken.locator)?;
-    session.end(alloc, messages)
+    if is_orphan(taken.refused) {
+        return session.end_orphaned(alloc, Some(*header), &taken.locator);
+    }
+    session.end(alloc, Vec::new(alloc))
 }
 
 /// Answers `getblocktxn`: sends the transactions, or the block if it lies deep. A request for a

@@ -113,8 +113,8 @@ fn hear_first(
 }
 
 /// Handles the peer's `version`. The session ends if the nonce is our own, so that we are
-/// connected to ourselves, or if the version is too old. Otherwise the version is noted and the
-/// greeting is sent.
+/// connected to ourselves, or if the version is too old. Otherwise it is noted, and whether the
+/// peer wants transactions to be announced (BIP 37), and the greeting is sent.
 #[tactic(auto, unfolding(cb_peer_state::specs::Receiving::introduced))]
 fn greet(session: &mut SessionState, alloc: Global, version: &Version) -> Result<Reaction, Fault>
     ensures ok { (item : Option Item) →
@@ -132,6 +132,7 @@ fn greet(session: &mut SessionState, alloc: Global, version: &Version) -> Result
     let messages = greeting_of(alloc, session.settings)?;
     session.state = State::Greeted;
     session.peer.version = version.version;
+    session.peer.relays = version.relay;
     Ok(Reaction::sends(messages))
 }
 
@@ -240,7 +241,7 @@ fn hear_ready(
 }
 
 /// Handles `headers`: notes the last one as heard from the peer and asks the hall which blocks
-/// are missing. An empty list leads to neither.
+/// are missing. An empty list leads to neither. It answers a request for what is unknown.
 #[tactic(auto, unfolding(cb_peer_state::specs::Receiving::in_ready))]
 fn hear_headers(
     session: &mut SessionState,
@@ -255,6 +256,7 @@ fn hear_headers(
         IsOk result }
 {
     let Some(hash) = hash_of_last(headers.as_slice()) else {
+        session.unknown = false;
         return session.end(alloc, Vec::new(alloc));
     };
     let list = headers.copy(alloc)?;

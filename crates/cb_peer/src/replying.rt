@@ -14,13 +14,14 @@ ghost use Rattle.cb_peer_state.specs.declared.stage.Stage.TheVariants as stages;
 ghost use Rattle.cb_peer_state.specs.declared.stage.Subject.{Subject};
 ghost use Rattle.cb_journal.specs.declared.answer.Answer.TheVariants as answers;
 ghost use Rattle.cb_peer_state.specs.Outcomes.{IsLightOutcome, Makes, as_list};
-ghost use Rattle.cb_peer_state.specs.Session.{weighs_answer, weighs_at, weighs_txids};
+ghost use Rattle.cb_peer_state.specs.Session.{weighs_answer, weighs_at, weighs_child, weighs_txids};
 ghost use Rattle.cb_peer_state.specs.Receiving.{ends};
-ghost use Rattle.cb_peer_state.specs.Replying.{before_first, differ, heads_for, heads_told, is_block, is_leave, is_untold, more_headers, need_told, news_told, replied, served_told, taken_told, tip_made, tip_told, tx_request, wanted_told, wish_told, without_brought};
+ghost use Rattle.cb_peer_state.specs.Replying.{before_first, differ, header_in, heads_for, heads_told, is_block, is_leave, is_untold, more_headers, need_told, news_told, replied, served_told, taken_told, tip_made, tip_told, tx_request, txs_told, wanted_told, wish_told};
 ghost use Rattle.cb_peer_state.specs.State.{unless_remembered};
 
 use crate::compact_replying::{answer_places, hear_given, hear_pairs, hear_short_heads, short_in};
 use cb_base::{Fault, Hash256, Shared};
+use cb_block::Header;
 use cb_journal::Answer;
 use cb_payload::{Entries, HeaderList, Inventory, Listed, Locator};
 use cb_peer_state::{
@@ -69,8 +70,8 @@ pub fn reply(
             Answer::Pairs(pairs) => hear_pairs(session, alloc, item, pairs),
             _ => Ok(Reaction::nothing(alloc)),
         },
-        Stage::Give(_) => match answer {
-            Answer::Taken(taken) => hear_given(session, alloc, taken),
+        Stage::Give(block) => match answer {
+            Answer::Taken(taken) => hear_given(session, alloc, &block.block().header, taken),
             _ => Ok(Reaction::nothing(alloc)),
         },
         Stage::Wanted => match answer {
@@ -98,7 +99,7 @@ fn hear_about(
         item.now session.new made.messages.items made.next) }
     ensures memory { IsOkUnless result Memory }
     ensures silent { (subject : Subject) →
-        weighs_answer answer.now ≡ false →
+        weighs_at session.old item.now (stages.About subject) answer.now ≡ false →
         IsLightOutcome (replied session.old item.now (stages.About subject) answer.now) →
         IsOk result }
 {
@@ -107,7 +108,7 @@ fn hear_about(
         Answer::Locator(locator) => ask_headers(session, alloc, locator),
         Answer::Need(need) => hear_need(session, alloc, need),
         Answer::TxTaken(_) => session.end(alloc, Vec::new(alloc)),
-        Answer::Taken(taken) => hear_taken(session, alloc, taken),
+        Answer::Taken(taken) => hear_taken(session, alloc, item, taken),
         Answer::Served(pieces) => send_served(session, alloc, pieces),
         Answer::Following(headers) => send_headers(session, alloc, headers),
         Answer::Kicked => Ok(session.end_by(alloc, CloseReason::Kicked)),
@@ -199,7 +200,7 @@ fn hear_heads(
 
 /// Handles the result of `headers`. Blocks of accepted headers that we don't have are queued
 /// for download, as far as there is room. A header without proof of work ends the session. For an
-/// unknown parent the headers before it are requested.
+/// unknown parent headers are requested, if they may be. Any other result answers such a request.
 fn hear_headers(
     session: &mut SessionState,
     alloc: Global,
@@ -220,31 +221,61 @@ fn hear_headers(
     session.want(heads.lack.as_slice(), before_first(item))?;
     match heads.refused {
         None => {
+            session.unknown = false;
             let messages = request_behind(session, alloc, item)?;
             session.end(alloc, messages)
         }
-        Some(fault) if fault == Fault::NoParent => ask_headers(session, alloc, &heads.locator),
-        Some(_) => session.end(alloc, Vec::new(alloc)),
+        Some(fault) if fault == Fault::NoParent => session.end_seeking(alloc, &heads.locator),
+        Some(_) => {
+            session.unknown = false;
+            session.end(alloc, Vec::new(alloc))
+        }
     }
 }
 
-/// Handles the result of `block`. A block already known is ignored. For an unknown parent the
-/// headers before it are requested. Any other refusal ends the session.
+/// Handles the result of `block`. A block already known is ignored. One whose parent is unknown
+/// waits for it, or headers are requested. Any other refusal ends the session.
 #[tactic(auto, unfolding(cb_peer_state::specs::Replying::taken_told))]
-fn hear_taken(session: &mut SessionState, alloc: Global, taken: &Taken) -> Result<Reaction, Fault>
-    ensures ok { (item : Option Item) → IfOk result
-        (λ made. Makes (taken_told session.old taken.now.refused taken.now.locator)
-        item session.new made.messages.items made.next) }
+fn hear_taken(
+    session: &mut SessionState,
+    alloc: Global,
+    item: &Option<Shared<Item>>,
+    taken: &Taken,
+) -> Result<Reaction, Fault>
+    ensures ok { IfOk result
+        (λ made. Makes
+        (taken_told session.old (header_in item.now) taken.now.refused taken.now.locator)
+        item.now session.new made.messages.items made.next) }
     ensures memory { IsOkUnless result Memory }
-    ensures silent { IsLightOutcome (taken_told session.old taken.now.refused taken.now.locator) →
+    ensures silent { weighs_child session.old (header_in item.now) taken.now.refused ≡ false →
+        IsLightOutcome
+        (taken_told session.old (header_in item.now) taken.now.refused taken.now.locator) →
         IsOk result }
 {
     match taken.refused {
         None => session.end(alloc, Vec::new(alloc)),
         Some(fault) if fault == Fault::Known => session.end(alloc, Vec::new(alloc)),
-        Some(fault) if fault == Fault::NoParent => ask_headers(session, alloc, &taken.locator),
+        Some(fault) if fault == Fault::NoParent => {
+            session.end_orphaned(alloc, header_in(item), &taken.locator)
+        }
         Some(_) => Ok(session.end_by(alloc, CloseReason::BadBlock)),
     }
+}
+
+/// The header of the block that an item brought, if it did.
+fn header_in(item: &Option<Shared<Item>>) -> Option<Header>
+    ensures { result ≡ header_in item.now }
+{
+    let Some(shared) = item else {
+        return None;
+    };
+    let Item::Good(bounded) = &**shared else {
+        return None;
+    };
+    let Message::Block(block) = bounded.message() else {
+        return None;
+    };
+    Some(block.header)
 }
 
 /// Handles the result of `inv`: requests the wanted transactions, and headers if a block is
@@ -260,30 +291,9 @@ fn hear_need(session: &mut SessionState, alloc: Global, need: &Need) -> Result<R
 {
     let mut messages = Vec::new(alloc);
     push_some(&mut messages, requests_of_txs(alloc, &need.entries)?)?;
-    push_some(&mut messages, request_for_blocks(session, alloc, need)?)?;
+    let found = names_block(need.entries.as_slice());
+    push_some(&mut messages, session.seek(alloc, found, &need.locator)?)?;
     session.end(alloc, messages)
-}
-
-/// The request for headers if a block is wanted, unless the session remembers a header. Fails only
-/// with `Fault::Memory`, and never if no block is wanted.
-fn request_for_blocks(
-    session: &SessionState,
-    alloc: Global,
-    need: &Need,
-) -> Result<Option<Outgoing>, Fault>
-    ensures message { IfOk result (λ made. as_list made ≡ unless_remembered session.now
-        (if list_any is_block need.now.entries
-        then asking_headers need.now.locator ∷ [] else [])) }
-    ensures memory { IsOkUnless result Memory }
-    ensures unpaid { need.now.entries ≡ [] → IsOk result }
-{
-    if session.remembers() {
-        return Ok(None);
-    }
-    if !names_block(need.entries.as_slice()) {
-        return Ok(None);
-    }
-    Ok(Some(asking_headers(need.locator.copy(alloc)?)))
 }
 
 /// Requests the queued blocks that are still needed, at most 16. One alone on top of the tip is
@@ -330,7 +340,7 @@ fn hear_news(
 {
     let mut messages = Vec::new(alloc);
     push_some(&mut messages, told_tip(session, alloc, news)?)?;
-    push_some(&mut messages, told_txs(alloc, item, &news.txids)?)?;
+    push_some(&mut messages, told_txs(session, alloc, item, &news.txids)?)?;
     push_some(&mut messages, told_wish(session, news.high))?;
     let made = tip_made(session, news);
     session.marks.tip = Some(news.tip);
@@ -503,20 +513,21 @@ fn names_block(entries: &[Inventory]) -> bool
         .any(|entry| matches!(entry, Inventory::Block(_)))
 }
 
-/// The announcement of the transactions, without the one that the item brought, if any are left.
-/// Fails only with `Fault::Memory`.
+/// The announcement of the transactions, without the one that the item brought, if any are left and
+/// the peer wants them announced (BIP 37). Fails only with `Fault::Memory`.
 fn told_txs(
+    session: &SessionState,
     alloc: Global,
     item: &Option<Shared<Item>>,
     txids: &Txids,
 ) -> Result<Option<Outgoing>, Fault>
     ensures message { IfOk result
-        (λ made. as_list made ≡ telling (without_brought item.now txids.now)) }
+        (λ made. as_list made ≡ txs_told session.now item.now txids.now) }
     ensures memory { IsOkUnless result Memory }
     ensures silent { weighs_txids item.now txids.now ≡ false →
-        telling (without_brought item.now txids.now) ≡ [] → IsOk result }
+        txs_told session.now item.now txids.now ≡ [] → IsOk result }
 {
-    if txids.as_slice().is_empty() {
+    if !session.peer.relays || txids.as_slice().is_empty() {
         return Ok(None);
     }
     let Some(shared) = item else {

@@ -4,10 +4,10 @@ ghost use Rattle.cb_fetch.specs.Fetching.{idle};
 ghost use Rattle.cb_peer_state.specs.declared.state.CloseReason.TheVariants as reasons;
 ghost use Rattle.cb_peer_state.specs.Outcomes.{Answers};
 ghost use Rattle.cb_peer_state.specs.Session.{closes, is_light, openings, spares, step_of, takes_no_memory};
-ghost use Rattle.cb_peer_state.specs.State.{opening, over};
+ghost use Rattle.cb_peer_state.specs.State.{is_fetching, opening, over};
 
 use crate::stepping::{arrive, end_of, hear_answer, probe, starve};
-use cb_base::{Fault, Seed};
+use cb_base::{Fault, Hash256, Seed};
 use cb_fetch::Fetch;
 use cb_journal::Question;
 use cb_peer_state::{CloseReason, Event, Peer, SessionState, Settings, State, one_message};
@@ -98,6 +98,27 @@ impl Session {
         self.kept.fetch.flight().len()
     }
 
+    /// Whether blocks are in flight or wanted.
+    pub fn is_fetching(&self) -> bool
+        ensures { result ≡ is_fetching self.now.fetch }
+    {
+        !self.kept.fetch.flight().is_empty() || !self.kept.fetch.wants_none()
+    }
+
+    /// Whether headers were requested because something was unknown, and weren't answered yet.
+    pub fn seeks(&self) -> bool
+        ensures { result ≡ self.now.unknown }
+    {
+        self.kept.unknown
+    }
+
+    /// The tip that the peer was told last.
+    pub fn told_tip(&self) -> Option<Hash256>
+        ensures { result ≡ self.now.marks.tip }
+    {
+        self.kept.marks.tip
+    }
+
     /// An equal copy that shares the item whose question is open.
     ///
     /// Fails only with `Fault::Memory`, and never if no question is open and no block is being
@@ -121,6 +142,7 @@ impl Session {
                 marks: kept.marks,
                 fetch: kept.fetch.copy(alloc)?,
                 resume_from: kept.resume_from,
+                unknown: kept.unknown,
                 compact: kept.compact.copy(alloc)?,
                 probes: kept.probes,
                 pending,

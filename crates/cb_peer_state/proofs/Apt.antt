@@ -1,7 +1,9 @@
 -- What a session that events lead to keeps: its blocks are fetched by the calls for it, where it asks which of the wanted ones are
 -- still needed none is in flight, and a block that the hall is given is sound, whether it came whole or was rebuilt.
-use Rattle.std.proofs.Common.{◌≡◌, ◌≢◌, ℕ, true, cond, List, [], ◌∷◌, Option, Some, None, refl, sym, subst, inl, inr}
-use Rattle.std.specs.Prelude.{◌==◌, ◌||◌, int_lt, length, pos, Result, Ok, Err}
+use Rattle.std.specs.List.{list_any}
+use Rattle.cb_peer_state.proofs.Behind.{orphaned_cases}
+use Rattle.std.proofs.Common.{◌≡◌, ◌≢◌, ℕ, true, cond, List, [], ◌∷◌, Option, Some, None, refl, sym, subst, inl, inr, Bool, false}
+use Rattle.std.specs.Prelude.{◌==◌, int_lt, length, pos, Result, Ok, Err}
 use Rattle.std.proofs.lemmas.Bool.{cases_Bool}
 use Rattle.cb_base.specs.declared.fault.Fault.{Fault}
 use Rattle.cb_base.specs.declared.fault.Fault.TheVariants as faults
@@ -14,7 +16,7 @@ use Rattle.cb_compact.specs.declared.named_tx.Pair.{Pair}
 use Rattle.cb_compact.specs.declared.partial.Filled.{Filled}
 use Rattle.cb_compact.specs.declared.partial.Filled.TheVariants as filling
 use Rattle.cb_fetch.specs.Fetching.{FetchState, IsReached as IsFetched, asks_now, blocks_in, idle, is_due, landed, taken_on, wanting_all}
-use Rattle.cb_fetch.specs.Fetching.IsReached.{opening as nothing_yet, wants, lands, falls_back as gives_back, takes_on}
+use Rattle.cb_fetch.specs.Fetching.IsReached.{opening as nothing_yet, wants, lands, falls_back as gives_back, takes_on, joins}
 use Rattle.cb_journal.specs.declared.answer.Answer.{Answer}
 use Rattle.cb_journal.specs.declared.answer.Answer.TheVariants as answers
 use Rattle.cb_payload.specs.declared.block_transactions.BlockTransactions.{BlockTransactions}
@@ -51,11 +53,11 @@ use Rattle.cb_peer_state.specs.Questions.{fits, is_nil, item_block, question_of,
 use Rattle.cb_peer_state.specs.Laws.{IsReached}
 use Rattle.cb_peer_state.specs.Laws.IsReached.{opens, steps, stops}
 use Rattle.cb_peer_state.specs.Receiving.{Outcome, asks, by_compact, by_headers, by_phase, completed_by, ended, ends, falls_back, filled_by, given_up, gives, gives_up, heard_of, in_greeted, in_ready, in_start, introduced, brought, processed, received, short_heard, txs_heard}
-use Rattle.cb_peer_state.specs.Replying.{answered, before_first, before_parent, excerpt_answered, given_told, heads_by, heads_for, heads_told, is_workless, need_told, news_told, paired, pairs_told, rebuilt_by, replied, served_told, short_told, taken_told, wanted_told}
+use Rattle.cb_peer_state.specs.Replying.{answered, before_first, excerpt_answered, given_told, heads_by, heads_for, heads_told, is_workless, need_told, news_told, paired, pairs_told, rebuilt_by, replied, served_told, short_told, taken_told, wanted_told, header_in, is_block, is_orphan, orphaned, search}
 use Rattle.cb_peer_state.specs.Session.{Stepped, arrives, open_step, pending_item, pending_of, pinged, stays, step_of, told}
 use Rattle.cb_block.specs.Decision.{is_sound_block}
 use Rattle.cb_peer_state.specs.declared.session_state.SessionState.{SessionState}
-use Rattle.cb_peer_state.specs.State.{freed, is_closed, is_ready, landing, remembers, unless_remembered, with_fallen, with_fetch, with_lacking, with_partial, with_pending}
+use Rattle.cb_peer_state.specs.State.{freed, is_closed, is_ready, landing, remembers, with_fallen, with_fetch, with_lacking, with_partial, with_pending, seeking, with_child, with_unknown}
 use Rattle.cb_peer_state.proofs.Cases.{brought_cases, by_test, dropping_cases, ends_cases}
 use Rattle.cb_peer_state.proofs.Resuming.{resuming_cases}
 
@@ -214,7 +216,7 @@ ready_suits : (s : SessionState) (message : Message) → IsFetched s.fetch → S
 unfolding in_ready
 ready_suits s messages.SendHeaders f = ends_suits _ (by_headers s) [] f
 ready_suits s (messages.SendCmpct relay) f = ends_suits _ (by_compact relay s) [] (compact_fetched relay s f)
-ready_suits s (messages.Headers []) f = ends_suits _ s [] f
+ready_suits s (messages.Headers []) f = ends_suits _ (with_unknown false s) [] f
 ready_suits s (messages.Headers (first ∷ others)) f = about_suits s.fetch _ subjects.Headers f (λ e. cc)
 ready_suits s (messages.Inv entries) f =
     elim (cases_Bool (is_nil (told_of entries))) [
@@ -253,16 +255,18 @@ processed_suits s (Some (Bad command fault)) f = none_suits idle (Some (Bad comm
 
 heads_by_suits : (item : Option Item) (s : SessionState) (refused : Option Fault) (locator : List Hash256) → IsFetched s.fetch → SuitsOutcome item (heads_by s item refused locator)
 heads_by_suits item s (Some faults.BadWork) locator f = none_suits idle item nothing_yet
-heads_by_suits item s (Some faults.NoParent) locator f = ends_suits item s _ f
-heads_by_suits item s (Some other) locator f = ends_suits item s _ f
-heads_by_suits item s None locator f = ends_suits item s _ f
+heads_by_suits item s (Some faults.NoParent) locator f = ends_suits item (seeking true s) _ f
+heads_by_suits item s (Some other) locator f = ends_suits item (with_unknown false s) _ f
+heads_by_suits item s None locator f = ends_suits item (with_unknown false s) _ f
 
 short_suits : (item : Option Item) (s : SessionState) (hash : Hash256) (heads : Heads) → IsFetched s.fetch → SuitsOutcome item (short_told s hash heads)
 unfolding short_told
 short_suits item s hash heads f =
-    let before : List Message = unless_remembered s (before_parent heads.refused heads.locator) in
-    by_test (SuitsOutcome item) (is_workless heads.refused) (ended reasons.BadBlock s) (cond (is_nil heads.lack) (ends (landing hash s) before) (asks s before Match)) (λ _. none_suits idle item nothing_yet)
-    (λ _. by_test (SuitsOutcome item) (is_nil heads.lack) (ends (landing hash s) before) (asks s before Match) (λ _. ends_suits item (landing hash s) before (lands s.fetch hash f)) (λ _. match_suits s.fetch item f))
+    let found : Bool = is_orphan heads.refused in
+    let before : List Message = search found s heads.locator in
+    let t : SessionState = seeking found s in
+    by_test (SuitsOutcome item) (is_workless heads.refused) (ended reasons.BadBlock s) (cond (is_nil heads.lack) (ends (landing hash t) before) (asks t before Match)) (λ _. none_suits idle item nothing_yet)
+    (λ _. by_test (SuitsOutcome item) (is_nil heads.lack) (ends (landing hash t) before) (asks t before Match) (λ _. ends_suits item (landing hash t) before (lands s.fetch hash f)) (λ _. match_suits s.fetch item f))
 
 heads_for_suits : (item : Option Item) (s : SessionState) (short : Option HeaderAndShortIds) (heads : Heads) → IsFetched s.fetch → SuitsOutcome item (heads_for s item short heads)
 heads_for_suits item s None heads f =
@@ -285,27 +289,37 @@ unfolding excerpt_answered
 excerpt_suits item s (excerpts.Refused fault) f = none_suits idle item nothing_yet
 excerpt_suits item s other f = ends_suits item s (excerpt_told other) f
 
-taken_suits : (item : Option Item) (s : SessionState) (refused : Option Fault) (locator : List Hash256) → IsFetched s.fetch → SuitsOutcome item (taken_told s refused locator)
+orphaned_suits : (item : Option Item) (s : SessionState) (header : Option Header) (locator : List Hash256) → IsFetched s.fetch → SuitsOutcome item (orphaned s header locator)
+orphaned_suits item s header locator f =
+    orphaned_cases (SuitsOutcome item) s header locator (ends_suits item (seeking true s) _ f)
+    (λ of _ _. ends_suits item (with_child (block_hash of) of.prev s) [] (joins s.fetch (block_hash of) f))
+
+taken_suits : (item : Option Item) (s : SessionState) (header : Option Header) (refused : Option Fault) (locator : List Hash256) → IsFetched s.fetch → SuitsOutcome item (taken_told s header refused locator)
 unfolding taken_told
-taken_suits item s None locator f = ends_suits item s _ f
-taken_suits item s (Some faults.Known) locator f = ends_suits item s _ f
-taken_suits item s (Some faults.NoParent) locator f = ends_suits item s _ f
-taken_suits item s (Some other) locator f = none_suits idle item nothing_yet
+taken_suits item s header None locator f = ends_suits item s _ f
+taken_suits item s header (Some faults.Known) locator f = ends_suits item s _ f
+taken_suits item s header (Some faults.NoParent) locator f = orphaned_suits item s header locator f
+taken_suits item s header (Some other) locator f = none_suits idle item nothing_yet
+
+given_suits : (item : Option Item) (s : SessionState) (header : Header) (refused : Option Fault) (locator : List Hash256) → IsFetched s.fetch → SuitsOutcome item (given_told s header refused locator)
+unfolding given_told
+given_suits item s header refused locator f =
+    by_test (SuitsOutcome item) (is_orphan refused) (orphaned s (Some header) locator) (ends s []) (λ _. orphaned_suits item s (Some header) locator f) (λ _. ends_suits item s [] f)
 
 replied_suits : (s : SessionState) (item : Option Item) (stage : Stage) (answer : Answer) → IsFetched s.fetch → SuitsOutcome item (replied s item stage answer)
-unfolding replied heads_told need_told wanted_told news_told served_told given_told pairs_told
+unfolding replied heads_told need_told wanted_told news_told served_told pairs_told
 replied_suits s item stage answers.Kicked f = none_suits idle item nothing_yet
 replied_suits s item Admit answers.Go f = processed_suits s item f
 replied_suits s item (About subject) (answers.Heads heads) f = heads_for_suits item s (short_in item) heads f
 replied_suits s item (About subject) (answers.Locator locator) f = ends_suits item s _ f
-replied_suits s item (About subject) (answers.Need need) f = ends_suits item s _ f
+replied_suits s item (About subject) (answers.Need need) f = ends_suits item (seeking (list_any is_block need.entries) s) _ f
 replied_suits s item (About subject) (answers.TxTaken refused) f = ends_suits item s _ f
-replied_suits s item (About subject) (answers.Taken taken) f = taken_suits item s taken.refused taken.locator f
+replied_suits s item (About subject) (answers.Taken taken) f = taken_suits item s (header_in item) taken.refused taken.locator f
 replied_suits s item (About subject) (answers.Served pieces) f = ends_suits item _ _ f
 replied_suits s item (About subject) (answers.Following headers) f = ends_suits item s _ f
 replied_suits s item (About subject) (answers.Excerpt excerpt) f = excerpt_suits item s excerpt f
 replied_suits s item Match (answers.Pairs pairs) f = paired_suits item s (short_in item) pairs f
-replied_suits s item (Give block) (answers.Taken taken) f = ends_suits item s _ f
+replied_suits s item (Give block) (answers.Taken taken) f = given_suits item s block.header taken.refused taken.locator f
 replied_suits s item Wanted (answers.Need need) f = fresh_suits (taken_on (blocks_in need.entries)) item (takes_on s.fetch (blocks_in need.entries) f)
 replied_suits s item Fresh (answers.News news) f = none_suits s.fetch item f
 replied_suits s item stage other f = none_suits s.fetch item f

@@ -1,17 +1,19 @@
 -- What the end of an item leaves as it is, though headers may be requested from the remembered one.
 use Rattle.std.proofs.Common.{◌≡◌, Bool, true, false, cond, List, [], ◌∷◌, ◌++◌, Option, Some, refl, ap, ◌∙◌}
-use Rattle.std.specs.Prelude.{◌||◌, filter_map, not}
+use Rattle.std.specs.Prelude.{◌&&◌, ◌||◌, None, filter_map, not}
 use Rattle.std.specs.List.{list_any}
 use Rattle.std.proofs.lemmas.List.{append-nil}
 use Rattle.std.proofs.lemmas.List.Elements.{filter_map-append}
 use Rattle.std.proofs.lemmas.List.Folds.{list_any-append}
 use Rattle.cb_base.specs.declared.hash.Hash256.{Hash256}
+use Rattle.cb_block.specs.declared.header.Header.{Header}
+use Rattle.cb_chain.specs.Entries.{block_hash}
 use Rattle.cb_talk.specs.Inventory.{asking_headers}
 use Rattle.cb_wire.specs.declared.message.Message.{Message}
 use Rattle.cb_peer_state.specs.Laws.{asks_for_headers, but_headers}
-use Rattle.cb_peer_state.specs.Receiving.{Outcome}
-use Rattle.cb_peer_state.specs.Replying.{resuming}
-use Rattle.cb_peer_state.specs.State.{remembers, unless_remembered}
+use Rattle.cb_peer_state.specs.Receiving.{Outcome, ends}
+use Rattle.cb_peer_state.specs.Replying.{orphaned, resuming, search, seeks}
+use Rattle.cb_peer_state.specs.State.{awaits, may_seek, remembers, unless_remembered, with_child}
 use Rattle.cb_peer_state.specs.declared.session_state.SessionState.{SessionState}
 use Rattle.cb_peer_state.proofs.Cases.{by_test}
 use Rattle.cb_peer_state.proofs.Resuming.{resuming_cases}
@@ -57,3 +59,15 @@ unless_all P s sent none all = by_test P (remembers s) [] sent (λ _. none) (λ 
 
 pub unless_nothing : (s : SessionState) → unless_remembered s [] ≡ []
 unless_nothing s = unless_all (λ (sent : List Message). sent ≡ []) s [] refl refl
+
+-- ---- what is requested where something is unknown
+
+pub search_all : (P : List Message → Type 0) (found : Bool) (s : SessionState) (locator : List Hash256) → P [] → P (asking_headers locator ∷ []) → P (search found s locator)
+search_all P found s locator none all = by_test P (found && may_seek s) (asking_headers locator ∷ []) [] (λ _. all) (λ _. none)
+
+-- a block that came before its parent is queued behind it, or headers are requested
+pub orphaned_cases : (P : Outcome → Type 0) (s : SessionState) (header : Option Header) (locator : List Hash256) → P (seeks s locator)
+    → ((of : Header) → header ≡ Some of → awaits s of.prev ≡ true → P (ends (with_child (block_hash of) of.prev s) [])) → P (orphaned s header locator)
+orphaned_cases P s None locator asks waits = asks
+orphaned_cases P s (Some header) locator asks waits =
+    by_test P (awaits s header.prev) (ends (with_child (block_hash header) header.prev s) []) (seeks s locator) (waits header refl) (λ _. asks)

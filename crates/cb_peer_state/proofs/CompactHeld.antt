@@ -1,4 +1,5 @@
 -- For what a session is ended while a compact block, or missing transactions of one, is pending.
+use Rattle.cb_peer_state.proofs.Behind.{orphaned_cases}
 use Rattle.std.proofs.Common.{◌≡◌, ◌∙◌, Bool, true, false, cond, List, [], ◌∷◌, Option, Some, None, Result, Ok, Err, length, refl, sym, ap}
 use Rattle.std.specs.Prelude.{◌&&◌, ◌==◌, not}
 use Rattle.cb_base.specs.declared.fault.Fault.{Fault}
@@ -40,9 +41,9 @@ use Rattle.cb_peer_state.specs.declared.state.State.{State}
 use Rattle.cb_peer_state.specs.declared.state.State.TheVariants.{Start, Greeted, Ready, Closed}
 use Rattle.cb_peer_state.specs.Questions.{fits, is_nil, question_of}
 use Rattle.cb_peer_state.specs.Receiving.{Outcome, asks, by_phase, completed_by, ended, ends, falls_back, filled_by, gives, heard_of, in_greeted, in_ready, in_start, processed, received, sends, short_heard, txs_heard}
-use Rattle.cb_peer_state.specs.Replying.{answered, before_parent, given_told, heads_told, is_workless, news_told, pairs_told, rebuilt_by, replied, resuming, short_told, wanted_told}
+use Rattle.cb_peer_state.specs.Replying.{answered, given_told, heads_told, is_workless, news_told, pairs_told, rebuilt_by, replied, resuming, short_told, wanted_told, is_orphan, orphaned, search}
 use Rattle.cb_peer_state.specs.Session.{Stepped, pending_item, step_of}
-use Rattle.cb_peer_state.specs.State.{freed, is_closed, landing, unless_remembered, with_fallen, with_partial}
+use Rattle.cb_peer_state.specs.State.{freed, is_closed, landing, with_fallen, with_partial, seeking, with_child}
 use Rattle.cb_peer_state.proofs.Resuming.{resuming_cases}
 use Rattle.cb_peer_state.proofs.CompactSteps.{by_test, end_session, told_by}
 use Rattle.cb_peer_state.proofs.CompactTable.{suits}
@@ -135,12 +136,14 @@ header_over : (t : SessionState) (short : HeaderAndShortIds) (heads : Heads) →
 unfolding replied heads_told short_told
 header_over t short heads going =
     let reason = is_workless heads.refused in
-    let before = unless_remembered t (before_parent heads.refused heads.locator) in
+    let found = is_orphan heads.refused in
+    let before = search found t heads.locator in
+    let u = seeking found t in
     let hash = block_hash short.header in
-    by_test (OverBy reason) (is_workless heads.refused) (ended reasons.BadBlock t) (cond (is_nil heads.lack) (ends (landing hash t) before) (asks t before Match))
+    by_test (OverBy reason) (is_workless heads.refused) (ended reasons.BadBlock t) (cond (is_nil heads.lack) (ends (landing hash u) before) (asks u before Match))
     (λ workless _. workless)
-    (λ _. by_test (OverBy reason) (is_nil heads.lack) (ends (landing hash t) before) (asks t before Match)
-    (λ _. end_goes reason (landing hash t) before going) (λ _. goes_on reason (asks t before Match) going))
+    (λ _. by_test (OverBy reason) (is_nil heads.lack) (ends (landing hash u) before) (asks u before Match)
+    (λ _. end_goes reason (landing hash u) before going) (λ _. goes_on reason (asks u before Match) going))
 
 rebuilt_goes : (t : SessionState) (header : Header) (reason : Bool) (rebuilt : Rebuilt) → is_closed t.state ≡ false → OverBy reason (rebuilt_by t header rebuilt)
 rebuilt_goes t header reason (rebuilts.Sound block) going = goes_on reason (gives t block) going
@@ -159,7 +162,10 @@ pairs_go t short pairs reason has going =
 given_goes : (t : SessionState) (item : Option Item) (block : Block) (answer : Answer) (question : SessionState) → fits (question_of question item (Give block)) answer ≡ true → is_closed t.state ≡ false → OverBy (is_reason t item answer) (replied t item (Give block) answer)
 unfolding replied given_told
 given_goes t item block answers.Kicked question fit going = λ _. refl
-given_goes t item block (answers.Taken taken) question fit going = end_goes false t (unless_remembered t (before_parent taken.refused taken.locator)) going
+given_goes t item block (answers.Taken taken) question fit going =
+    by_test (OverBy false) (is_orphan taken.refused) (orphaned t (Some block.header) taken.locator) (ends t [])
+    (λ _. orphaned_cases (OverBy false) t (Some block.header) taken.locator (end_goes false (seeking true t) (search true t taken.locator) going) (λ of _ _. end_goes false (with_child (block_hash of) of.prev t) [] going))
+    (λ _. end_goes false t [] going)
 given_goes t item block other question fit going = absurd cc
 
 wanted_goes : (t : SessionState) (item : Option Item) (answer : Answer) (question : SessionState) → fits (question_of question item Wanted) answer ≡ true → is_closed t.state ≡ false → OverBy (is_reason t item answer) (replied t item Wanted answer)

@@ -29,7 +29,6 @@ use Rattle.cb_state.specs.declared.accepting.Heads.{Heads}
 use Rattle.cb_talk.specs.Inventory.{asking_txs}
 use Rattle.cb_wire.specs.declared.item.Item.{Item}
 use Rattle.cb_wire.specs.declared.item.Item.TheVariants.{Good}
-use Rattle.cb_wire.specs.declared.message.Message.{Message}
 use Rattle.cb_wire.specs.declared.message.Message.TheVariants as messages
 use Rattle.cb_peer_state.specs.Compact.{IsCompletedLater, LeadsTo, given_by, matched}
 use Rattle.cb_peer_state.specs.Compact.LeadsTo.{gives as is_given, requests}
@@ -44,7 +43,7 @@ use Rattle.cb_peer_state.specs.Receiving.{asks, ends, filled_by, gives, heard_of
 use Rattle.cb_peer_state.specs.Replying.{answered, heads_told, pairs_told, rebuilt_by, replied, resuming, short_told}
 use Rattle.cb_peer_state.specs.Session.{Stepped, for_item, open_step, step_of}
 use Rattle.cb_peer_state.specs.State.{freed, is_closed, is_ready, with_partial, with_pending}
-use Rattle.cb_peer_state.proofs.Behind.{same_but, same_compact, unless_nothing}
+use Rattle.cb_peer_state.proofs.Behind.{same_but, same_compact}
 use Rattle.cb_peer_state.specs.Laws.{but_headers}
 use Rattle.cb_peer_state.proofs.CompactSteps.{end_session, ready_is, ready_open, sent_at_end}
 
@@ -70,7 +69,7 @@ go_short s message ready has = rw (ready, has) refl
 
 told_lacking : (s : SessionState) (message : HeaderAndShortIds) (heads : Heads) → heads.refused ≡ None → is_nil heads.lack ≡ false → answered s (Some (Good (messages.CmpctBlock message))) (About subjects.Headers) (answers.Heads heads) ≡ asks s [] Match
 unfolding answered resuming replied heads_told short_told
-told_lacking s message heads fine some = rw (fine, some) (ap (λ (sent : List Message). asks s sent Match) (unless_nothing s))
+told_lacking s message heads fine some = rw (fine, some) refl
 
 pub told_pairs : (s : SessionState) (message : HeaderAndShortIds) (pairs : List Pair) → has_places message.txs ≡ true → answered s (Some (Good (messages.CmpctBlock message))) Match (answers.Pairs pairs) ≡ resuming (rebuilt_by s message.header (rebuilt_of message pairs))
 unfolding answered replied pairs_told

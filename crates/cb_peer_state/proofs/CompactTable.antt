@@ -61,11 +61,11 @@ use Rattle.cb_peer_state.specs.declared.state.State.{State}
 use Rattle.cb_peer_state.specs.declared.state.State.TheVariants.{Start, Greeted, Ready, Closed}
 use Rattle.cb_peer_state.specs.Questions.{is_nil, short_in, told_of}
 use Rattle.cb_peer_state.specs.Receiving.{Outcome, asks, brought, by_compact, by_headers, by_phase, completed_by, ended, ends, falls_back, filled_by, given_up, gives, greeting, heard_of, in_greeted, in_ready, in_start, introduced, last_hash, processed, received, sends, short_heard, txs_heard}
-use Rattle.cb_peer_state.specs.Replying.{answered, before_first, before_parent, count_of, differ, excerpt_answered, given_told, heads_by, heads_for, heads_told, high_asked, is_block, is_untold, is_workless, more_behind, more_headers, need_told, news_told, paired, pairs_told, rebuilt_by, replied, resumed, served_told, short_told, taken_told, tip_by, tip_made, tip_told, tx_request, wanted_told, wish_told, without_brought}
-use Rattle.cb_peer_state.specs.State.{dropping, is_closed, is_partial, is_ready, landing, next_nonce, over, unless_remembered, with_asked_high, with_fallen, with_fetch, with_lacking, with_made, with_marks, with_partial, with_peer, with_state}
+use Rattle.cb_peer_state.specs.Replying.{answered, before_first, count_of, differ, excerpt_answered, given_told, heads_by, heads_for, heads_told, high_asked, is_block, is_untold, is_workless, more_behind, more_headers, need_told, news_told, paired, pairs_told, rebuilt_by, replied, resumed, served_told, short_told, taken_told, tip_by, tip_made, tip_told, tx_request, wanted_told, wish_told, without_brought, header_in, is_orphan, orphaned, search, txs_told}
+use Rattle.cb_peer_state.specs.State.{dropping, is_closed, is_partial, is_ready, landing, next_nonce, over, unless_remembered, with_asked_high, with_fallen, with_fetch, with_lacking, with_made, with_marks, with_partial, with_peer, with_state, seeking, with_child, with_unknown}
 use Rattle.cb_peer_state.specs.Laws.{but_headers}
 use Rattle.cb_peer_state.proofs.Resuming.{resuming_cases}
-use Rattle.cb_peer_state.proofs.Behind.{but_more, found_more, unless_all}
+use Rattle.cb_peer_state.proofs.Behind.{but_more, found_more, unless_all, orphaned_cases, search_all}
 use Rattle.cb_peer_state.proofs.CompactSteps.{by_test, ends_by}
 
 -- ---- which question an item may lead to
@@ -159,9 +159,8 @@ plain_if test sent plain = by_test IsPlain test sent [] (λ _. plain) (λ _. pla
 plain_unless : (s : SessionState) (sent : List Message) → IsPlain sent → IsPlain (unless_remembered s sent)
 plain_unless s sent plain = unless_all IsPlain s sent plain_nothing plain
 
-plain_parent : (refused : Option Fault) (locator : List Hash256) → IsPlain (before_parent refused locator)
-plain_parent (Some faults.NoParent) locator = plain_headers locator
-plain_parent refused locator = plain_nothing
+plain_search : (found : Bool) (s : SessionState) (locator : List Hash256) → IsPlain (search found s locator)
+plain_search found s locator = search_all IsPlain found s locator plain_nothing (plain_headers locator)
 
 plain_behind : (headers : List Header) → IsPlain (more_behind headers)
 plain_behind [] = plain_nothing
@@ -185,6 +184,9 @@ plain_announcing false tip (first ∷ others) = record { no_nonce = refl; no_hig
 plain_telling : (txids : List Hash256) → IsPlain (telling txids)
 plain_telling [] = plain_nothing
 plain_telling (first ∷ others) = record { no_nonce = refl; no_high = refl; no_request = refl }
+
+plain_txs : (s : SessionState) (item : Option Item) (txids : List Hash256) → IsPlain (txs_told s item txids)
+plain_txs s item txids = plain_if s.peer.relays (telling (without_brought item txids)) (plain_telling (without_brought item txids))
 
 plain_greeting : (settings : Settings) → IsPlain (greeting settings)
 plain_greeting settings =
@@ -284,7 +286,7 @@ over_turns fine s item why = record { suited = λ _. refl; keeps = is_over refl;
 introduced_turns : (fine : Bool) (s : SessionState) (item : Option Item) (version : Version) → Turns fine s item (introduced s version)
 unfolding introduced
 introduced_turns fine s item version =
-    let met = with_state Greeted (with_peer (record { version = version.version; by_headers = s.peer.by_headers; capable = s.peer.capable; wants_high = s.peer.wants_high }) s) in
+    let met = with_state Greeted (with_peer (record { version = version.version; relays = version.relay; by_headers = s.peer.by_headers; capable = s.peer.capable; wants_high = s.peer.wants_high }) s) in
     by_test (Turns fine s item) (version.nonce == s.settings.nonce) (ended reasons.SelfPeer s) (cond (int_lt version.version (pos 70001)) (ended reasons.OldPeer s) (sends met (greeting s.settings)))
     (λ _. over_turns fine s item reasons.SelfPeer)
     (λ _. by_test (Turns fine s item) (int_lt version.version (pos 70001)) (ended reasons.OldPeer s) (sends met (greeting s.settings))
@@ -293,7 +295,7 @@ introduced_turns fine s item version =
 
 compact_alike : (relay : CompactRelay) (s : SessionState) → IsAlike s (by_compact relay s)
 compact_alike relay s =
-    by_test (IsAlike s) (relay.version == 1) (with_peer (record { version = s.peer.version; by_headers = s.peer.by_headers; capable = true; wants_high = relay.high_bandwidth }) s) s
+    by_test (IsAlike s) (relay.version == 1) (with_peer (record { version = s.peer.version; relays = s.peer.relays; by_headers = s.peer.by_headers; capable = true; wants_high = relay.high_bandwidth }) s) s
     (λ _. record { compact = refl; settings = refl }) (λ _. alike s)
 
 -- a block drops one that is being rebuilt with its hash
@@ -419,7 +421,7 @@ ready_turns : (fine : Bool) (s : SessionState) (message : Message) → Turns fin
 unfolding in_ready
 ready_turns fine s messages.SendHeaders = calm_end fine s (by_headers s) (Some (Good messages.SendHeaders)) [] (record { compact = refl; settings = refl }) plain_nothing
 ready_turns fine s (messages.SendCmpct relay) = calm_end fine s (by_compact relay s) (Some (Good (messages.SendCmpct relay))) [] (compact_alike relay s) plain_nothing
-ready_turns fine s (messages.Headers []) = calm_end fine s s (Some (Good (messages.Headers []))) [] (alike s) plain_nothing
+ready_turns fine s (messages.Headers []) = calm_end fine s (with_unknown false s) (Some (Good (messages.Headers []))) [] (record { compact = refl; settings = refl }) plain_nothing
 ready_turns fine s (messages.Headers (first ∷ others)) =
     calm fine s (Some (Good (messages.Headers (first ∷ others)))) (asks (heard_of (last_hash first others) s) [] (About subjects.Headers)) (record { compact = refl; settings = refl }) plain_nothing refl
 ready_turns fine s (messages.Inv entries) =
@@ -458,36 +460,46 @@ processed_turns fine s (Some (Bad command fault)) = over_turns fine s (Some (Bad
 
 heads_turns : (fine : Bool) (s t : SessionState) (item : Option Item) (refused : Option Fault) (locator : List Hash256) → IsAlike s t → Turns fine s item (heads_by t item refused locator)
 heads_turns fine s t item (Some faults.BadWork) locator like = record { suited = λ _. refl; keeps = is_over refl; counts = stopped refl refl refl; tells = λ _. no_wish refl; requested = no_asking refl }
-heads_turns fine s t item (Some faults.NoParent) locator like = calm_end fine s t item (unless_remembered t (asking_headers locator ∷ [])) like (plain_unless t (asking_headers locator ∷ []) (plain_headers locator))
-heads_turns fine s t item (Some other) locator like = calm_end fine s t item [] like plain_nothing
-heads_turns fine s t item None locator like = calm_end fine s t item (unless_remembered t (more_headers item)) like (plain_unless t (more_headers item) (plain_more item))
+heads_turns fine s t item (Some faults.NoParent) locator like = calm_end fine s (seeking true t) item (search true t locator) (record { compact = like.compact; settings = like.settings }) (plain_search true t locator)
+heads_turns fine s t item (Some other) locator like = calm_end fine s (with_unknown false t) item [] (record { compact = like.compact; settings = like.settings }) plain_nothing
+heads_turns fine s t item None locator like =
+    calm_end fine s (with_unknown false t) item (unless_remembered t (more_headers item)) (record { compact = like.compact; settings = like.settings }) (plain_unless t (more_headers item) (plain_more item))
 
-taken_turns : (fine : Bool) (s : SessionState) (item : Option Item) (refused : Option Fault) (locator : List Hash256) → Turns fine s item (taken_told s refused locator)
+orphaned_turns : (fine : Bool) (s : SessionState) (item : Option Item) (header : Option Header) (locator : List Hash256) → Turns fine s item (orphaned s header locator)
+orphaned_turns fine s item header locator =
+    orphaned_cases (Turns fine s item) s header locator (calm_end fine s (seeking true s) item (search true s locator) (record { compact = refl; settings = refl }) (plain_search true s locator))
+    (λ of _ _. calm_end fine s (with_child (block_hash of) of.prev s) item [] (record { compact = refl; settings = refl }) plain_nothing)
+
+taken_turns : (fine : Bool) (s : SessionState) (item : Option Item) (header : Option Header) (refused : Option Fault) (locator : List Hash256) → Turns fine s item (taken_told s header refused locator)
 unfolding taken_told
-taken_turns fine s item None locator = calm_end fine s s item [] (alike s) plain_nothing
-taken_turns fine s item (Some faults.Known) locator = calm_end fine s s item [] (alike s) plain_nothing
-taken_turns fine s item (Some faults.NoParent) locator = calm_end fine s s item (unless_remembered s (asking_headers locator ∷ [])) (alike s) (plain_unless s (asking_headers locator ∷ []) (plain_headers locator))
-taken_turns fine s item (Some other) locator = over_turns fine s item reasons.BadBlock
+taken_turns fine s item header None locator = calm_end fine s s item [] (alike s) plain_nothing
+taken_turns fine s item header (Some faults.Known) locator = calm_end fine s s item [] (alike s) plain_nothing
+taken_turns fine s item header (Some faults.NoParent) locator = orphaned_turns fine s item header locator
+taken_turns fine s item header (Some other) locator = over_turns fine s item reasons.BadBlock
 
-given_turns : (fine : Bool) (s : SessionState) (item : Option Item) (refused : Option Fault) (locator : List Hash256) → Turns fine s item (given_told s refused locator)
+given_turns : (fine : Bool) (s : SessionState) (item : Option Item) (header : Header) (refused : Option Fault) (locator : List Hash256) → Turns fine s item (given_told s header refused locator)
 unfolding given_told
-given_turns fine s item refused locator = calm_end fine s s item (unless_remembered s (before_parent refused locator)) (alike s) (plain_unless s (before_parent refused locator) (plain_parent refused locator))
+given_turns fine s item header refused locator =
+    by_test (Turns fine s item) (is_orphan refused) (orphaned s (Some header) locator) (ends s []) (λ _. orphaned_turns fine s item (Some header) locator) (λ _. calm_end fine s s item [] (alike s) plain_nothing)
 
 -- the search of the mempool follows the header of a compact block, whose places were looked at
 told_short_turns : (fine : Bool) (s : SessionState) (item : Option Item) (hash : Hash256) (heads : Heads) → (fine ≡ true → match_suits item ≡ true) → Turns fine s item (short_told s hash heads)
 unfolding short_told
 told_short_turns fine s item hash heads has =
-    by_test (Turns fine s item) (is_workless heads.refused) (ended reasons.BadBlock s)
-    (cond (is_nil heads.lack) (ends (landing hash s) (unless_remembered s (before_parent heads.refused heads.locator))) (asks s (unless_remembered s (before_parent heads.refused heads.locator)) Match))
+    let found = is_orphan heads.refused in
+    let sent = search found s heads.locator in
+    let plain : IsPlain sent = plain_search found s heads.locator in
+    let t = seeking found s in
+    by_test (Turns fine s item) (is_workless heads.refused) (ended reasons.BadBlock s) (cond (is_nil heads.lack) (ends (landing hash t) sent) (asks t sent Match))
     (λ _. over_turns fine s item reasons.BadBlock)
-    (λ _. by_test (Turns fine s item) (is_nil heads.lack) (ends (landing hash s) (unless_remembered s (before_parent heads.refused heads.locator))) (asks s (unless_remembered s (before_parent heads.refused heads.locator)) Match)
-    (λ _. calm_end fine s (landing hash s) item (unless_remembered s (before_parent heads.refused heads.locator)) (record { compact = refl; settings = refl }) (plain_unless s (before_parent heads.refused heads.locator) (plain_parent heads.refused heads.locator)))
+    (λ _. by_test (Turns fine s item) (is_nil heads.lack) (ends (landing hash t) sent) (asks t sent Match)
+    (λ _. calm_end fine s (landing hash t) item sent (record { compact = refl; settings = refl }) plain)
     (λ _. record {
       suited = has;
       keeps = same_one refl;
-      counts = used 0 (plain_unless s (before_parent heads.refused heads.locator) (plain_parent heads.refused heads.locator)).no_nonce (next_stays s.settings.salt s.compact.made);
-      tells = λ _. no_wish (plain_unless s (before_parent heads.refused heads.locator) (plain_parent heads.refused heads.locator)).no_high;
-      requested = no_asking (plain_unless s (before_parent heads.refused heads.locator) (plain_parent heads.refused heads.locator)).no_request;
+      counts = used 0 plain.no_nonce (next_stays s.settings.salt s.compact.made);
+      tells = λ _. no_wish plain.no_high;
+      requested = no_asking plain.no_request;
     }))
 
 rebuilt_turns : (fine : Bool) (s : SessionState) (item : Option Item) (short : HeaderAndShortIds) (pairs : List Pair) (rebuilt : Rebuilt) → short_in item ≡ Some short → rebuilt_of short pairs ≡ rebuilt → Turns fine s item (rebuilt_by s short.header rebuilt)
@@ -548,8 +560,9 @@ need_turns : (fine : Bool) (s : SessionState) (item : Option Item) (need : Need)
 unfolding need_told
 need_turns fine s item need =
     let asked = asking_for (filter_map tx_request need.entries) in
-    let behind : List Message = unless_remembered s (cond (list_any is_block need.entries) (asking_headers need.locator ∷ []) []) in
-    calm_end fine s s item (asked ++ behind) (alike s) (plain_both asked behind (plain_for (filter_map tx_request need.entries)) (plain_unless s (cond (list_any is_block need.entries) (asking_headers need.locator ∷ []) []) (plain_if (list_any is_block need.entries) (asking_headers need.locator ∷ []) (plain_headers need.locator))))
+    let found = list_any is_block need.entries in
+    let behind = search found s need.locator in
+    calm_end fine s (seeking found s) item (asked ++ behind) (record { compact = refl; settings = refl }) (plain_both asked behind (plain_for (filter_map tx_request need.entries)) (plain_search found s need.locator))
 
 wanted_turns : (fine : Bool) (s : SessionState) (item : Option Item) (need : Need) → Turns fine s item (wanted_told s need)
 unfolding wanted_told
@@ -623,8 +636,8 @@ news_turns : (fine : Bool) (s : SessionState) (item : Option Item) (news : News)
 unfolding news_told
 news_turns fine s item news =
     let tip = tip_told s news in
-    let txs = telling (without_brought item news.txids) in
-    let plain = plain_telling (without_brought item news.txids) in
+    let txs = txs_told s item news.txids in
+    let plain = plain_txs s item news.txids in
     let wished = wish_told s news.high in
     let parts : nonces_in ((tip ++ txs) ++ wished) ≡ (nonces_in tip ++ nonces_in txs) ++ nonces_in wished =
     filter_map-append nonce_in (tip ++ txs) wished ∙ ap (λ (ns : List ℕ). ns ++ nonces_in wished) (filter_map-append nonce_in tip txs) in
@@ -660,12 +673,12 @@ replied_turns fine s item (About subject) (answers.Heads heads) fits = heads_tol
 replied_turns fine s item (About subject) (answers.Locator locator) fits = calm_end fine s s item (unless_remembered s (asking_headers locator ∷ [])) (alike s) (plain_unless s (asking_headers locator ∷ []) (plain_headers locator))
 replied_turns fine s item (About subject) (answers.Need need) fits = need_turns fine s item need
 replied_turns fine s item (About subject) (answers.TxTaken refused) fits = calm_end fine s s item [] (alike s) plain_nothing
-replied_turns fine s item (About subject) (answers.Taken taken) fits = taken_turns fine s item taken.refused taken.locator
+replied_turns fine s item (About subject) (answers.Taken taken) fits = taken_turns fine s item (header_in item) taken.refused taken.locator
 replied_turns fine s item (About subject) (answers.Served pieces) fits = served_turns fine s item pieces
 replied_turns fine s item (About subject) (answers.Following headers) fits = calm_end fine s s item (messages.Headers headers ∷ []) (alike s) (record { no_nonce = refl; no_high = refl; no_request = refl })
 replied_turns fine s item (About subject) (answers.Excerpt excerpt) fits = excerpt_turns fine s item excerpt
 replied_turns fine s item Match (answers.Pairs pairs) fits = paired_turns fine s item (short_in item) pairs refl
-replied_turns fine s item (Give block) (answers.Taken taken) fits = given_turns fine s item taken.refused taken.locator
+replied_turns fine s item (Give block) (answers.Taken taken) fits = given_turns fine s item block.header taken.refused taken.locator
 replied_turns fine s item Wanted (answers.Need need) fits = wanted_turns fine s item need
 replied_turns fine s item Fresh (answers.News news) fits = news_turns fine s item news
 replied_turns fine s item stage other fits = quiet fine s item

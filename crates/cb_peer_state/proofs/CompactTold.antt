@@ -43,7 +43,7 @@ use Rattle.cb_peer_state.specs.declared.stage.Stage.TheVariants.{Admit, About, M
 use Rattle.cb_peer_state.specs.declared.stage.Subject.TheVariants as subjects
 use Rattle.cb_peer_state.specs.Questions.{is_nil, pending_question, question_at, question_of}
 use Rattle.cb_peer_state.specs.Receiving.{ends, falls_back, filled_by}
-use Rattle.cb_peer_state.specs.Replying.{answered, differ, is_block, is_heard, is_untold, news_told, rebuilt_by, replied, resuming, tip_by, tip_told, wish_told, without_brought}
+use Rattle.cb_peer_state.specs.Replying.{answered, differ, is_block, is_heard, is_untold, news_told, rebuilt_by, replied, resuming, tip_by, tip_told, wish_told, without_brought, txs_told}
 use Rattle.cb_peer_state.specs.Session.{Stepped, for_item, step_of}
 use Rattle.cb_peer_state.specs.State.{freed, is_closed, is_ready, with_fallen, with_partial, with_pending}
 use Rattle.cb_peer_state.specs.Laws.{but_headers}
@@ -116,7 +116,8 @@ three_none test xs ys zs x y z = rw (list_any-append test (xs ++ ys) zs, list_an
 news_none : (test : Message → Bool) (s : SessionState) (item : Option Item) (news : News) → list_any test (tip_told s news) ≡ false → ((txids : List Hash256) → list_any test (telling txids) ≡ false) → ((high : Bool) → test (wish high) ≡ false) → list_any test (news_told s item news).messages ≡ false
 unfolding news_told
 news_none test s item news tip txs wished =
-    three_none test (tip_told s news) (telling (without_brought item news.txids)) (wish_told s news.high) tip (txs (without_brought item news.txids))
+    three_none test (tip_told s news) (txs_told s item news.txids) (wish_told s news.high) tip
+    (by_test (λ (list : List Message). list_any test list ≡ false) s.peer.relays (telling (without_brought item news.txids)) [] (λ _. txs (without_brought item news.txids)) (λ _. refl))
     (by_test (λ (list : List Message). list_any test list ≡ false) (s.peer.capable && differ news.high s.compact.asked_high) (wish news.high ∷ []) [] (λ _. rw (wished news.high) refl) (λ _. refl))
 
 answered_none : (test : Message → Bool) (s : SessionState) (item : Option Item) (stage : Stage) (news : News) → list_any test (news_told s item news).messages ≡ false → list_any test (answered s item stage (answers.News news)).messages ≡ false

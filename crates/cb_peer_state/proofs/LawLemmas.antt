@@ -22,7 +22,7 @@ use Rattle.cb_payload.specs.declared.inventory.Inventory.TheVariants as entry
 use Rattle.cb_state.specs.declared.news.News.{News}
 use Rattle.cb_state.specs.declared.serving.Piece.{Piece}
 use Rattle.cb_state.specs.declared.serving.Piece.TheVariants as piece
-use Rattle.cb_talk.specs.Announcing.{announcing, telling}
+use Rattle.cb_talk.specs.Announcing.{announcing}
 use Rattle.cb_talk.specs.Inventory.{asking_block, asking_for}
 use Rattle.cb_talk.specs.Serving.{lacking_in, nonce_behind, not_found, sent, served, shorts}
 use Rattle.cb_wire.specs.declared.item.Item.{Item}
@@ -40,7 +40,7 @@ use Rattle.cb_peer_state.specs.declared.state.State.TheVariants.{Start, Greeted,
 use Rattle.cb_peer_state.specs.Questions.{fits, is_nil, item_block, question_at, question_of, questions_left, pending_question}
 use Rattle.cb_peer_state.specs.Laws.{IsReached, asks_for_block, asks_for_headers, but_headers, greets, is_following, is_headers, names_block, rebuilds, rebuilds_at, rebuilds_by, wishes_for}
 use Rattle.cb_peer_state.specs.Receiving.{Outcome, by_compact, by_phase, ends, in_greeted, in_start, received, sends}
-use Rattle.cb_peer_state.specs.Replying.{answered, is_heard, is_untold, news_told, replied, served_told, tip_by, tip_told, tx_request, wish_told, without_brought}
+use Rattle.cb_peer_state.specs.Replying.{answered, is_heard, is_untold, news_told, replied, served_told, tip_by, tip_told, tx_request, wish_told, txs_told}
 use Rattle.cb_peer_state.specs.Session.{pending_item, step_of}
 use Rattle.cb_block.specs.Decision.{is_sound_block}
 use Rattle.cb_peer_state.specs.declared.session_state.SessionState.{SessionState}
@@ -50,7 +50,7 @@ use Rattle.cb_peer_state.proofs.Cases.{by_test}
 use Rattle.cb_block.proofs.Deciding.{sound_from}
 use Rattle.cb_peer_state.proofs.Steps.{open_fewer}
 use Rattle.cb_peer_state.proofs.Behind.{all_there, same_but}
-use Rattle.cb_peer_state.proofs.Sending.{IsMild, None_of, none_of_both, step_none, tip_none}
+use Rattle.cb_peer_state.proofs.Sending.{IsMild, None_of, none_of_both, step_none, tip_none, txs_none_by}
 use Rattle.cb_peer_state.proofs.Cases.{sent_at_end}
 
 -- ---- before the handshake is done
@@ -115,7 +115,7 @@ any_second : (a b : Bool) → b ≡ true → (a || b) ≡ true
 any_second true b e = refl
 any_second false b e = e
 
-pub source_not_told : (s : SessionState) (item : Option Item) (news : News) → s.marks.heard ≡ Some news.tip → (news_told s item news).messages ≡ telling (without_brought item news.txids) ++ wish_told s news.high
+pub source_not_told : (s : SessionState) (item : Option Item) (news : News) → s.marks.heard ≡ Some news.tip → (news_told s item news).messages ≡ txs_told s item news.txids ++ wish_told s news.high
 unfolding news_told
 source_not_told s item news heard =
     let is : is_untold s news ≡ true = any_second (is_nil news.path) (is_heard s.marks.heard news.tip) (ap (λ (h : Option Hash256). is_heard h news.tip) heard ∙ same-refl news.tip) in
@@ -131,7 +131,6 @@ headers_mild =
       pong = λ _. refl;
       send_headers = refl;
       send_compact = λ _. refl;
-      inv = λ _. refl;
       not_found = λ _. refl;
       get_headers = λ _. refl;
       tx = λ _. refl;
@@ -167,6 +166,7 @@ no_headers_unasked s event plain e =
       need = λ need. no_headers_asked (filter_map tx_request need.entries);
       wanted = λ need _. no_headers_asked (requests_of (need.near && s.peer.capable) (taken_on (blocks_in need.entries)).flight);
       tip = λ news. no_headers_of_tip (freed s) news plain;
+      txs = λ news. txs_none_by is_headers (freed s) waiting.item news.txids (λ _. refl);
       following = λ headers same. not_following answer headers (subst (λ ev. is_following ev ≡ false) is e) same;
       whole = λ _ _. refl;
     })
@@ -181,7 +181,6 @@ blocks_mild hash =
       pong = λ _. refl;
       send_headers = refl;
       send_compact = λ _. refl;
-      inv = λ _. refl;
       not_found = λ _. refl;
       get_headers = λ _. refl;
       tx = λ _. refl;
@@ -246,7 +245,8 @@ not_asked_twice s event hash reached isnt asked =
           record {
             need = λ need. asked_by_entries hash (filter_map tx_request need.entries) (no_block_among_txs hash need.entries);
             wanted = λ need stage. absurd (let idle : has s.fetch.flight hash ≡ false = none_flies s waiting hash (reached_apt s reached) kept stage in let clash : true ≡ false = sym flies ∙ idle in cc);
-            tip = λ news. tip_none (asks_for_block hash) (freed s) news (blocks_mild hash) (λ _. refl);
+            tip = λ news. tip_none (asks_for_block hash) (freed s) news (blocks_mild hash) (λ _. refl) (λ _. refl);
+            txs = λ news. txs_none_by (asks_for_block hash) (freed s) waiting.item news.txids (λ _. refl);
             following = λ headers _. refl;
             whole = λ other made. other_block hash other (not_rebuilt s event hash other waiting answer isnt kept is made);
           }) in

@@ -13,5 +13,6 @@ pub mod Lights
 pub mod Meeting
 pub mod Remembered
 pub mod Resuming
+pub mod Seeking
 pub mod Sending
 pub mod Steps

@@ -24,10 +24,10 @@ use Rattle.cb_peer_state.specs.declared.event.Event.TheVariants as events
 use Rattle.cb_peer_state.specs.Questions.{fits, is_nil, question_of}
 use Rattle.cb_peer_state.specs.Outcomes.{Answers, IsLightOutcome, as_list, is_light_stage}
 use Rattle.cb_peer_state.specs.Receiving.{ends, last_hash, received}
-use Rattle.cb_peer_state.specs.Replying.{answered, is_block, replied, taken_told}
+use Rattle.cb_peer_state.specs.Replying.{answered, is_block, replied, taken_told, orphaned, search, seeks}
 use Rattle.cb_peer_state.specs.Session.{Stepped, for_item, is_light, spares, spares_pending, stays, told, weighs_at}
 use Rattle.cb_peer_state.specs.declared.session_state.SessionState.{SessionState}
-use Rattle.cb_peer_state.specs.State.{freed, remembers, unless_remembered}
+use Rattle.cb_peer_state.specs.State.{freed, remembers, unless_remembered, seeking}
 use Rattle.cb_peer_state.proofs.Cases.{sent_at_end}
 
 -- a message that is sent isn't nothing
@@ -42,10 +42,13 @@ ping_sent s message nonce same light = some_sent s (messages.Pong nonce) [] (sub
 pub headers_sent : {P : Type 0} (s : SessionState) (locator : List Hash256) → remembers s ≡ false → IsLightOutcome (ends s (unless_remembered s (asking_headers locator ∷ []))) → P
 headers_sent s locator free light = some_sent s (asking_headers locator) [] (subst (λ (b : Bool). IsLightOutcome (ends s (cond b [] (asking_headers locator ∷ [])))) free light)
 
-pub taken_light : (s : SessionState) (refused : Option Fault) (locator : List Hash256) (fault : Fault) → refused ≡ Some fault → fault ≡ faults.NoParent → IsLightOutcome (taken_told s refused locator)
-    → IsLightOutcome (ends s (unless_remembered s (asking_headers locator ∷ [])))
+pub seeks_silent : (s : SessionState) (locator : List Hash256) → IsLightOutcome (seeks s locator) → search true s locator ≡ []
+seeks_silent s locator light = sym (sent_at_end (seeking true s) (search true s locator)) ∙ light.0
+
+pub taken_light : (s : SessionState) (header : Option Header) (refused : Option Fault) (locator : List Hash256) (fault : Fault) → refused ≡ Some fault → fault ≡ faults.NoParent → IsLightOutcome (taken_told s header refused locator)
+    → IsLightOutcome (orphaned s header locator)
 unfolding taken_told
-taken_light s refused locator fault is parent light = subst (λ (r : Option Fault). IsLightOutcome (taken_told s r locator)) (is ∙ ap (λ (f : Fault). Some f) parent) light
+taken_light s header refused locator fault is parent light = subst (λ (r : Option Fault). IsLightOutcome (taken_told s header r locator)) (is ∙ ap (λ (f : Fault). Some f) parent) light
 
 -- no block is among no entries
 pub none_named : {P : Type 0} (entries : List Inventory) (found : Bool) → not (is_nil entries) ≡ false → found ≡ list_any is_block entries → found ≡ true → P

@@ -1,17 +1,15 @@
 -- What becomes of a remembered header, and of blocks that have no room among the wanted ones.
 use Rattle.std.proofs.Common.{◌≡◌, ◌⊎◌, Bool, true, false, cond, List, [], ◌∷◌, ◌++◌, Option, Some, None, Result, Ok, Err, refl, sym, ap, subst, ◌∙◌, inl, inr}
-use Rattle.std.specs.Prelude.{◌==◌, ◌&&◌, ◌||◌, not, filter, filter_map, int_lt, is_some, length, nat_lt, pos}
+use Rattle.std.specs.Prelude.{◌==◌, ◌&&◌, ◌||◌, not, filter_map, int_lt, is_some, length, nat_lt, pos}
 use Rattle.std.specs.List.{list_any}
-use Rattle.std.proofs.lemmas.Bool.{cases_Bool, or_cases}
+use Rattle.std.proofs.lemmas.Bool.{or_cases}
 use Rattle.std.proofs.lemmas.List.Folds.{list_any-append}
 use Rattle.cb_base.specs.declared.fault.Fault.{Fault}
 use Rattle.cb_base.specs.declared.fault.Fault.TheVariants as faults
 use Rattle.cb_base.specs.declared.hash.Hash256.{Hash256}
 use Rattle.cb_block.specs.declared.block.Block.{Block}
 use Rattle.cb_block.specs.declared.header.Header.{Header}
-use Rattle.cb_block.specs.Decision.{is_sound_block}
 use Rattle.cb_chain.specs.Entries.{block_hash, same}
-use Rattle.cb_chain.proofs.BlockIndexes.{same-true}
 use Rattle.cb_compact.specs.Slots.{Unfilled}
 use Rattle.cb_compact.specs.declared.named_tx.Pair.{Pair}
 use Rattle.cb_compact.specs.declared.partial.Filled.{Filled}
@@ -33,7 +31,6 @@ use Rattle.cb_rebuild.specs.declared.rebuilding.Rebuilt.{Rebuilt}
 use Rattle.cb_rebuild.specs.declared.rebuilding.Rebuilt.TheVariants as rebuilts
 use Rattle.cb_state.specs.declared.accepting.Heads.{Heads}
 use Rattle.cb_state.specs.declared.news.News.{News}
-use Rattle.cb_state.specs.declared.serving.Piece.{Piece}
 use Rattle.cb_state.specs.declared.serving_places.Excerpt.{Excerpt}
 use Rattle.cb_state.specs.declared.serving_places.Excerpt.TheVariants as excerpts
 use Rattle.cb_state.specs.declared.wanting.Need.{Need}
@@ -58,19 +55,19 @@ use Rattle.cb_peer_state.specs.declared.state.CloseReason.TheVariants as reasons
 use Rattle.cb_peer_state.specs.declared.state.State.{State}
 use Rattle.cb_peer_state.specs.declared.state.State.TheVariants.{Start, Greeted, Ready, Closed}
 use Rattle.cb_peer_state.specs.Questions.{is_nil, short_in, told_of}
-use Rattle.cb_peer_state.specs.Receiving.{Outcome, asks, brought, by_compact, by_headers, by_phase, completed_by, ended, ends, falls_back, filled_by, given_up, gives, gives_up, greeting, heard_of, in_greeted, in_ready, in_start, introduced, last_hash, processed, received, sends, short_heard, txs_heard}
-use Rattle.cb_peer_state.specs.Replying.{answered, asks_news, before_first, before_parent, differ, excerpt_answered, given_told, heads_by, heads_for, heads_told, is_block, is_untold, is_workless, more_headers, need_told, news_told, paired, pairs_told, rebuilt_by, replied, resumed, resumes, resuming, served_told, short_told, taken_told, tip_by, tip_told, tx_request, wanted_told, wish_told, without_brought}
+use Rattle.cb_peer_state.specs.Receiving.{Outcome, asks, brought, by_compact, by_headers, by_phase, completed_by, ended, ends, falls_back, filled_by, given_up, gives_up, greeting, heard_of, in_greeted, in_ready, in_start, introduced, processed, received, sends, short_heard, txs_heard}
+use Rattle.cb_peer_state.specs.Replying.{answered, asks_news, before_first, differ, excerpt_answered, given_told, heads_by, heads_for, heads_told, is_block, is_untold, is_workless, more_headers, need_told, news_told, paired, pairs_told, rebuilt_by, replied, resumed, resumes, resuming, served_told, short_told, taken_told, tip_by, tip_told, tx_request, wanted_told, wish_told, without_brought, header_in, is_orphan, orphaned, search, seeks, txs_told}
 use Rattle.cb_peer_state.specs.Session.{Stepped, arrives, for_item, open_step, pending_of, pinged, stays, step_of}
-use Rattle.cb_peer_state.specs.State.{dropping, freed, is_closed, is_partial, is_ready, landing, next_nonce, remembers, unless_remembered, with_fallen, with_fetch, with_lacking, with_made, with_partial, with_peer, with_pending, with_state}
+use Rattle.cb_peer_state.specs.State.{freed, is_closed, is_ready, landing, next_nonce, remembers, unless_remembered, with_fallen, with_fetch, with_lacking, with_made, with_partial, with_peer, with_pending, with_state, may_seek, seeking, with_unknown}
 use Rattle.cb_peer_state.proofs.Cases.{brought_cases, by_test, dropping_cases, ends_cases}
 use Rattle.cb_peer_state.proofs.Resuming.{resuming_cases}
-use Rattle.cb_peer_state.specs.Laws.{IsReached, asks_for_headers, completes, is_short_of, rebuilds, rebuilds_at, rebuilds_by}
+use Rattle.cb_peer_state.specs.Laws.{IsReached, asks_for_headers, completes, is_short_of, rebuilds_at, rebuilds_by}
 use Rattle.cb_peer_state.specs.Laws.IsReached.{opens, steps, stops}
 use Rattle.cb_peer_state.specs.Resuming.{IsKept, IsWantedBy, Resumes, header_before, header_requests}
 use Rattle.cb_peer_state.specs.Resuming.IsKept.{fetched, remembered, asked}
 use Rattle.cb_peer_state.specs.Resuming.IsWantedBy.{was, falls, needed}
 use Rattle.cb_peer_state.specs.Resuming.Resumes.{waits, asks as resumes_now, ends as is_ended}
-use Rattle.cb_peer_state.proofs.Behind.{same_fetch}
+use Rattle.cb_peer_state.proofs.Behind.{same_fetch, orphaned_cases}
 use Rattle.cb_peer_state.proofs.CompactHonest.{told_goes, waiting}
 use Rattle.cb_peer_state.proofs.CompactSteps.{end_session, sent_at_end, step_by, told_by}
 use Rattle.cb_peer_state.proofs.LawLemmas.{no_asking_served}
@@ -81,16 +78,26 @@ use Rattle.cb_peer_state.proofs.Sending.{None_of, none_of_both}
 unless_quiet : (u : SessionState) (sent : List Message) → remembers u ≡ true → unless_remembered u sent ≡ []
 unless_quiet u sent e = ap (λ (b : Bool). cond b [] sent) e
 
-heads_ends : (P : Outcome → Type 0) (u : SessionState) (item : Option Item) (refused : Option Fault) (locator : List Hash256) → is_workless refused ≡ false → ((sent : List Message) → (remembers u ≡ true → sent ≡ []) → P (ends u sent)) → P (heads_by u item refused locator)
+nothing_sought : (found may : Bool) → found && (may && false) ≡ false
+nothing_sought true true = refl
+nothing_sought true false = refl
+nothing_sought false may = refl
+
+search_quiet : (found : Bool) (u : SessionState) (locator : List Hash256) → remembers u ≡ true → search found u locator ≡ []
+search_quiet found u locator e =
+    ap (λ (b : Bool). cond (found && (not u.unknown && not b)) (asking_headers locator ∷ []) []) e
+    ∙ ap (λ (b : Bool). cond b (asking_headers locator ∷ []) []) (nothing_sought found (not u.unknown))
+
+heads_ends : (P : Outcome → Type 0) (u : SessionState) (item : Option Item) (refused : Option Fault) (locator : List Hash256) → is_workless refused ≡ false → ((unknown : Bool) (sent : List Message) → (remembers u ≡ true → sent ≡ []) → P (ends (with_unknown unknown u) sent)) → P (heads_by u item refused locator)
 heads_ends P u item (Some faults.BadWork) locator works all = absurd cc
-heads_ends P u item (Some faults.NoParent) locator works all = all (unless_remembered u (asking_headers locator ∷ [])) (unless_quiet u (asking_headers locator ∷ []))
-heads_ends P u item (Some other) locator works all = all [] (λ _. refl)
-heads_ends P u item None locator works all = all (unless_remembered u (more_headers item)) (unless_quiet u (more_headers item))
+heads_ends P u item (Some faults.NoParent) locator works all = all ((true && may_seek u) || u.unknown) (search true u locator) (search_quiet true u locator)
+heads_ends P u item (Some other) locator works all = all false [] (λ _. refl)
+heads_ends P u item None locator works all = all false (unless_remembered u (more_headers item)) (unless_quiet u (more_headers item))
 
 some_same : (a b : Hash256) → Some a ≡ Some b → a ≡ b
 some_same a b e = cc
 
-kept_end : (hash header : Hash256) (u : SessionState) (item : Option Item) (sent : List Message) → u.resume_from ≡ Some header → sent ≡ [] → IsKept hash (Some header) (for_item item (resuming (ends u sent)))
+pub kept_end : (hash header : Hash256) (u : SessionState) (item : Option Item) (sent : List Message) → u.resume_from ≡ Some header → sent ≡ [] → IsKept hash (Some header) (for_item item (resuming (ends u sent)))
 kept_end hash header u item sent at none =
     let outcome = ends u sent in
     let there : outcome.session.resume_from ≡ Some header = ap (λ (t : SessionState). t.resume_from) (end_session u sent) ∙ at in
@@ -101,7 +108,7 @@ kept_end hash header u item sent at none =
     (ap (λ (list : List Message). header_requests (list ++ asking_headers (other ∷ []) ∷ [])) silent
     ∙ ap (λ (h : Hash256). asking_headers (h ∷ []) ∷ []) (some_same other header (sym is ∙ there))))
 
-fetched_end : (hash : Hash256) (before : Option Hash256) (u : SessionState) (item : Option Item) (sent : List Message) → is_fetched u.fetch hash ≡ true → IsKept hash before (for_item item (resuming (ends u sent)))
+pub fetched_end : (hash : Hash256) (before : Option Hash256) (u : SessionState) (item : Option Item) (sent : List Message) → is_fetched u.fetch hash ≡ true → IsKept hash before (for_item item (resuming (ends u sent)))
 fetched_end hash before u item sent e =
     fetched (ap (λ (fetch : FetchState). is_fetched fetch hash) (same_fetch (ends u sent) ∙ ap (λ (t : SessionState). t.fetch) (end_session u sent)) ∙ e)
 
@@ -113,7 +120,7 @@ kept_heads : (t : SessionState) (item : Option Item) (first : Header) (heads : H
     → IsKept hash (header_before t first) (for_item item (resuming (heads_by (with_lacking heads.lack (before_first item) t) item heads.refused heads.locator)))
 kept_heads t item first heads hash front works lacks =
     heads_ends (λ (o : Outcome). IsKept hash (header_before t first) (for_item item (resuming o))) u item heads.refused heads.locator works
-    (λ sent quiet. by_memory (remembers t) refl sent quiet)
+    (λ unknown sent quiet. by_memory (remembers t) refl unknown sent quiet)
   where
     u : SessionState
     u = with_lacking heads.lack (before_first item) t
@@ -121,25 +128,25 @@ kept_heads t item first heads hash front works lacks =
     all : FetchState
     all = wanting_all t.fetch heads.lack
 
-    at_header : (header : Hash256) (sent : List Message) → u.resume_from ≡ Some header → (remembers u ≡ true → sent ≡ []) → IsKept hash (Some header) (for_item item (resuming (ends u sent)))
-    at_header header sent at quiet = kept_end hash header u item sent at (quiet (ap is_some at))
+    at_header : (header : Hash256) (unknown : Bool) (sent : List Message) → u.resume_from ≡ Some header → (remembers u ≡ true → sent ≡ []) → IsKept hash (Some header) (for_item item (resuming (ends (with_unknown unknown u) sent)))
+    at_header header unknown sent at quiet = kept_end hash header (with_unknown unknown u) item sent at (quiet (ap is_some at))
 
-    by_room : (sent : List Message) → (remembers u ≡ true → sent ≡ []) → remembers t ≡ false → (left : Bool) → leaves_out all heads.lack ≡ left → IsKept hash (header_before t first) (for_item item (resuming (ends u sent)))
-    by_room sent quiet free true out =
+    by_room : (unknown : Bool) (sent : List Message) → (remembers u ≡ true → sent ≡ []) → remembers t ≡ false → (left : Bool) → leaves_out all heads.lack ≡ left → IsKept hash (header_before t first) (for_item item (resuming (ends (with_unknown unknown u) sent)))
+    by_room unknown sent quiet free true out =
         let at : u.resume_from ≡ Some first.prev = ap (λ (b : Bool). cond b t.resume_from (cond (leaves_out all heads.lack) (before_first item) None)) free ∙ ap (λ (b : Bool). cond b (before_first item) None) out ∙ front in
         let same : Some first.prev ≡ header_before t first = sym (ap (λ (b : Bool). cond b t.resume_from (Some first.prev)) free) in
-        subst (λ (before : Option Hash256). IsKept hash before (for_item item (resuming (ends u sent)))) same (at_header first.prev sent at quiet)
-    by_room sent quiet free false out =
+        subst (λ (before : Option Hash256). IsKept hash before (for_item item (resuming (ends (with_unknown unknown u) sent)))) same (at_header first.prev unknown sent at quiet)
+    by_room unknown sent quiet free false out =
         let is : is_fetched all hash ≡ true = each_fetched all heads.lack hash out lacks in
-        fetched_end hash (header_before t first) u item sent (ap (λ (b : Bool). is_fetched (cond b t.fetch all) hash) free ∙ is)
+        fetched_end hash (header_before t first) (with_unknown unknown u) item sent (ap (λ (b : Bool). is_fetched (cond b t.fetch all) hash) free ∙ is)
 
-    by_memory : (remembered : Bool) → remembers t ≡ remembered → (sent : List Message) → (remembers u ≡ true → sent ≡ []) → IsKept hash (header_before t first) (for_item item (resuming (ends u sent)))
-    by_memory true e sent quiet =
+    by_memory : (remembered : Bool) → remembers t ≡ remembered → (unknown : Bool) (sent : List Message) → (remembers u ≡ true → sent ≡ []) → IsKept hash (header_before t first) (for_item item (resuming (ends (with_unknown unknown u) sent)))
+    by_memory true e unknown sent quiet =
         let (header, is) = some_of t.resume_from e in
         let at : u.resume_from ≡ Some header = ap (λ (b : Bool). cond b t.resume_from (cond (leaves_out all heads.lack) (before_first item) None)) e ∙ is in
         let same : Some header ≡ header_before t first = sym is ∙ sym (ap (λ (b : Bool). cond b t.resume_from (Some first.prev)) e) in
-        subst (λ (before : Option Hash256). IsKept hash before (for_item item (resuming (ends u sent)))) same (at_header header sent at quiet)
-    by_memory false e sent quiet = by_room sent quiet e (leaves_out all heads.lack) refl
+        subst (λ (before : Option Hash256). IsKept hash before (for_item item (resuming (ends (with_unknown unknown u) sent)))) same (at_header header unknown sent at quiet)
+    by_memory false e unknown sent quiet = by_room unknown sent quiet e (leaves_out all heads.lack) refl
 
 headers_answered : (t : SessionState) (first : Header) (others : List Header) (heads : Heads) → answered t (Some (Good (messages.Headers (first ∷ others)))) (About subjects.Headers) (answers.Heads heads)
     ≡ resuming (heads_by (with_lacking heads.lack (Some first.prev) t) (Some (Good (messages.Headers (first ∷ others)))) heads.refused heads.locator)
@@ -209,6 +216,16 @@ quiet_rests before joins t sent at none = end_rests before t.fetch.wanted joins 
 unless_rests : (before : Hash256) (joins : Hash256 → Type 0) (t : SessionState) (sent : List Message) → t.resume_from ≡ Some before → Rests before t.fetch.wanted joins (ends t (unless_remembered t sent))
 unless_rests before joins t sent at = quiet_rests before joins t (unless_remembered t sent) at (ap (λ (list : List Message). list_any asks_for_headers list) (unless_quiet t sent (ap is_some at)))
 
+seeks_rests : (before : Hash256) (joins : Hash256 → Type 0) (t : SessionState) (locator : List Hash256) → t.resume_from ≡ Some before → Rests before t.fetch.wanted joins (seeks t locator)
+seeks_rests before joins t locator at =
+    quiet_rests before joins (seeking true t) (search true t locator) at (ap (λ (list : List Message). list_any asks_for_headers list) (search_quiet true t locator (ap is_some at)))
+
+-- no child is queued while a header is remembered
+orphaned_rests : (before : Hash256) (joins : Hash256 → Type 0) (t : SessionState) (header : Option Header) (locator : List Hash256) → t.resume_from ≡ Some before → Rests before t.fetch.wanted joins (orphaned t header locator)
+orphaned_rests before joins t header locator at =
+    orphaned_cases (Rests before t.fetch.wanted joins) t header locator (seeks_rests before joins t locator at)
+    (λ of _ waits. absurd (let clash : false ≡ true = sym (ap (λ (b : Bool). not b && is_fetched t.fetch of.prev) (ap is_some at)) ∙ waits in cc))
+
 -- what is sent or asked, where nothing of it changes
 next_rests : (before : Hash256) (joins : Hash256 → Type 0) (t : SessionState) (sent : List Message) (next : Option Stage) → t.resume_from ≡ Some before → None_of asks_for_headers sent → Rests before t.fetch.wanted joins (record { session = t; messages = sent; next = next })
 next_rests before joins t sent next at none = rests at none (λ _ e. inl e)
@@ -227,7 +244,7 @@ quiet_wishes true false relay = refl
 quiet_wishes false true relay = refl
 quiet_wishes false false relay = refl
 
-quiet_for : (entries : List Inventory) → None_of asks_for_headers (asking_for entries)
+pub quiet_for : (entries : List Inventory) → None_of asks_for_headers (asking_for entries)
 quiet_for [] = refl
 quiet_for (first ∷ others) = refl
 
@@ -250,12 +267,15 @@ quiet_tip_by : (s : SessionState) (news : News) (block : Option Block) → None_
 quiet_tip_by s news (Some block) = refl
 quiet_tip_by s news None = quiet_announcing (s.peer.by_headers && not news.long) news.tip news.path
 
-quiet_news : (s : SessionState) (item : Option Item) (news : News) → None_of asks_for_headers ((tip_told s news ++ telling (without_brought item news.txids)) ++ wish_told s news.high)
+quiet_txs : (s : SessionState) (item : Option Item) (txids : List Hash256) → None_of asks_for_headers (txs_told s item txids)
+quiet_txs s item txids = by_test (None_of asks_for_headers) s.peer.relays (telling (without_brought item txids)) [] (λ _. quiet_telling (without_brought item txids)) (λ _. refl)
+
+quiet_news : (s : SessionState) (item : Option Item) (news : News) → None_of asks_for_headers ((tip_told s news ++ txs_told s item news.txids) ++ wish_told s news.high)
 quiet_news s item news =
     let tip = tip_told s news in
-    let txs = telling (without_brought item news.txids) in
+    let txs = txs_told s item news.txids in
     none_of_both asks_for_headers (tip ++ txs) (wish_told s news.high)
-    (none_of_both asks_for_headers tip txs (by_test (None_of asks_for_headers) (is_untold s news) [] (tip_by s news news.block) (λ _. refl) (λ _. quiet_tip_by s news news.block)) (quiet_telling (without_brought item news.txids)))
+    (none_of_both asks_for_headers tip txs (by_test (None_of asks_for_headers) (is_untold s news) [] (tip_by s news news.block) (λ _. refl) (λ _. quiet_tip_by s news news.block)) (quiet_txs s item news.txids))
     (by_test (None_of asks_for_headers) (s.peer.capable && differ news.high s.compact.asked_high) (wish news.high ∷ []) [] (λ _. refl) (λ _. refl))
 
 -- ---- messages of the peer
@@ -264,7 +284,7 @@ introduced_rests : (before : Hash256) (joins : Hash256 → Type 0) (s : SessionS
 unfolding introduced
 introduced_rests before joins s version at =
     let P = Rests before s.fetch.wanted joins in
-    let met = with_state Greeted (with_peer (record { version = version.version; by_headers = s.peer.by_headers; capable = s.peer.capable; wants_high = s.peer.wants_high }) s) in
+    let met = with_state Greeted (with_peer (record { version = version.version; relays = version.relay; by_headers = s.peer.by_headers; capable = s.peer.capable; wants_high = s.peer.wants_high }) s) in
     by_test (λ (o : Outcome). P o) (version.nonce == s.settings.nonce) (ended reasons.SelfPeer s) (cond (int_lt version.version (pos 70001)) (ended reasons.OldPeer s) (sends met (greeting s.settings))) (λ _. over_rests before s.fetch.wanted joins reasons.SelfPeer s)
     (λ _. by_test (λ (o : Outcome). P o) (int_lt version.version (pos 70001)) (ended reasons.OldPeer s) (sends met (greeting s.settings)) (λ _. over_rests before s.fetch.wanted joins reasons.OldPeer s)
     (λ _. next_rests before joins met (greeting s.settings) None at (quiet_greeting s.settings)))
@@ -274,10 +294,10 @@ unfolding in_start
 start_rests before joins s (messages.Version version) at = introduced_rests before joins s version at
 start_rests before joins s other at = next_rests before joins s [] None at refl
 
-compact_rests : (before : Hash256) (joins : Hash256 → Type 0) (s : SessionState) (relay : CompactRelay) (make : SessionState → Outcome) → Rests before s.fetch.wanted joins (make (with_peer (record { version = s.peer.version; by_headers = s.peer.by_headers; capable = true; wants_high = relay.high_bandwidth }) s))
+compact_rests : (before : Hash256) (joins : Hash256 → Type 0) (s : SessionState) (relay : CompactRelay) (make : SessionState → Outcome) → Rests before s.fetch.wanted joins (make (with_peer (record { version = s.peer.version; relays = s.peer.relays; by_headers = s.peer.by_headers; capable = true; wants_high = relay.high_bandwidth }) s))
     → Rests before s.fetch.wanted joins (make s) → Rests before s.fetch.wanted joins (make (by_compact relay s))
 compact_rests before joins s relay make changed same =
-    by_test (λ (t : SessionState). Rests before s.fetch.wanted joins (make t)) (relay.version == 1) (with_peer (record { version = s.peer.version; by_headers = s.peer.by_headers; capable = true; wants_high = relay.high_bandwidth }) s) s (λ _. changed) (λ _. same)
+    by_test (λ (t : SessionState). Rests before s.fetch.wanted joins (make t)) (relay.version == 1) (with_peer (record { version = s.peer.version; relays = s.peer.relays; by_headers = s.peer.by_headers; capable = true; wants_high = relay.high_bandwidth }) s) s (λ _. changed) (λ _. same)
 
 greeted_rests : (before : Hash256) (joins : Hash256 → Type 0) (s : SessionState) (message : Message) → s.resume_from ≡ Some before → Rests before s.fetch.wanted joins (in_greeted s message)
 unfolding in_greeted
@@ -360,7 +380,7 @@ unfolding in_ready
 ready_rests before joins s messages.SendHeaders at joining = quiet_rests before joins (by_headers s) [] at refl
 ready_rests before joins s (messages.SendCmpct relay) at joining =
     compact_rests before joins s relay (λ (t : SessionState). ends t []) (quiet_rests before joins (with_peer _ s) [] at refl) (quiet_rests before joins s [] at refl)
-ready_rests before joins s (messages.Headers []) at joining = quiet_rests before joins s [] at refl
+ready_rests before joins s (messages.Headers []) at joining = quiet_rests before joins (with_unknown false s) [] at refl
 ready_rests before joins s (messages.Headers (first ∷ others)) at joining = rests at refl (λ _ e. inl e)
 ready_rests before joins s (messages.Inv entries) at joining =
     by_test (Rests before s.fetch.wanted joins) (is_nil (told_of entries)) (ends s []) (asks s [] (About subjects.Inventory)) (λ _. quiet_rests before joins s [] at refl) (λ _. rests at refl (λ _ e. inl e))
@@ -398,18 +418,20 @@ processed_rests before joins s (Some (Bad command fault)) at joining = over_rest
 heads_by_rests : (before : Hash256) (old : List Hash256) (joins : Hash256 → Type 0) (u : SessionState) (item : Option Item) (refused : Option Fault) (locator : List Hash256) → u.resume_from ≡ Some before → WantedOr old joins u.fetch.wanted → Rests before old joins (heads_by u item refused locator)
 heads_by_rests before old joins u item (Some faults.BadWork) locator at wants = over_rests before old joins reasons.BadBlock u
 heads_by_rests before old joins u item (Some faults.NoParent) locator at wants =
-    end_rests before old joins u (unless_remembered u (asking_headers locator ∷ [])) at (ap (λ (list : List Message). list_any asks_for_headers list) (unless_quiet u (asking_headers locator ∷ []) (ap is_some at))) wants
-heads_by_rests before old joins u item (Some other) locator at wants = end_rests before old joins u [] at refl wants
+    end_rests before old joins (seeking true u) (search true u locator) at (ap (λ (list : List Message). list_any asks_for_headers list) (search_quiet true u locator (ap is_some at))) wants
+heads_by_rests before old joins u item (Some other) locator at wants = end_rests before old joins (with_unknown false u) [] at refl wants
 heads_by_rests before old joins u item None locator at wants =
-    end_rests before old joins u (unless_remembered u (more_headers item)) at (ap (λ (list : List Message). list_any asks_for_headers list) (unless_quiet u (more_headers item) (ap is_some at))) wants
+    end_rests before old joins (with_unknown false u) (unless_remembered u (more_headers item)) at (ap (λ (list : List Message). list_any asks_for_headers list) (unless_quiet u (more_headers item) (ap is_some at))) wants
 
 short_told_rests : (before : Hash256) (joins : Hash256 → Type 0) (s : SessionState) (hash : Hash256) (heads : Heads) → s.resume_from ≡ Some before → Rests before s.fetch.wanted joins (short_told s hash heads)
 unfolding short_told
 short_told_rests before joins s hash heads at =
-    let sent = unless_remembered s (before_parent heads.refused heads.locator) in
-    let quiet : None_of asks_for_headers sent = ap (λ (list : List Message). list_any asks_for_headers list) (unless_quiet s (before_parent heads.refused heads.locator) (ap is_some at)) in
-    by_test (Rests before s.fetch.wanted joins) (is_workless heads.refused) (ended reasons.BadBlock s) (cond (is_nil heads.lack) (ends (landing hash s) sent) (asks s sent Match)) (λ _. over_rests before s.fetch.wanted joins reasons.BadBlock s)
-    (λ _. by_test (Rests before s.fetch.wanted joins) (is_nil heads.lack) (ends (landing hash s) sent) (asks s sent Match) (λ _. quiet_rests before joins (landing hash s) sent at quiet) (λ _. rests at quiet (λ _ e. inl e)))
+    let found = is_orphan heads.refused in
+    let sent = search found s heads.locator in
+    let quiet : None_of asks_for_headers sent = ap (λ (list : List Message). list_any asks_for_headers list) (search_quiet found s heads.locator (ap is_some at)) in
+    let t = seeking found s in
+    by_test (Rests before s.fetch.wanted joins) (is_workless heads.refused) (ended reasons.BadBlock s) (cond (is_nil heads.lack) (ends (landing hash t) sent) (asks t sent Match)) (λ _. over_rests before s.fetch.wanted joins reasons.BadBlock s)
+    (λ _. by_test (Rests before s.fetch.wanted joins) (is_nil heads.lack) (ends (landing hash t) sent) (asks t sent Match) (λ _. quiet_rests before joins (landing hash t) sent at quiet) (λ _. rests at quiet (λ _ e. inl e)))
 
 heads_for_rests : (before : Hash256) (joins : Hash256 → Type 0) (s : SessionState) (item : Option Item) (short : Option HeaderAndShortIds) (heads : Heads) → s.resume_from ≡ Some before → Rests before s.fetch.wanted joins (heads_for s item short heads)
 heads_for_rests before joins s item None heads at =
@@ -430,12 +452,17 @@ paired_rests before joins s (Some short) pairs at joining =
     by_test (Rests before s.fetch.wanted joins) (has_places short.txs) (rebuilt_by s short.header (rebuilt_of short pairs)) (ended reasons.BadMessage s) (λ _. rebuilt_rests before joins s short.header (rebuilt_of short pairs) at joining)
     (λ _. over_rests before s.fetch.wanted joins reasons.BadMessage s)
 
-taken_rests : (before : Hash256) (joins : Hash256 → Type 0) (s : SessionState) (refused : Option Fault) (locator : List Hash256) → s.resume_from ≡ Some before → Rests before s.fetch.wanted joins (taken_told s refused locator)
+taken_rests : (before : Hash256) (joins : Hash256 → Type 0) (s : SessionState) (header : Option Header) (refused : Option Fault) (locator : List Hash256) → s.resume_from ≡ Some before → Rests before s.fetch.wanted joins (taken_told s header refused locator)
 unfolding taken_told
-taken_rests before joins s None locator at = quiet_rests before joins s [] at refl
-taken_rests before joins s (Some faults.Known) locator at = quiet_rests before joins s [] at refl
-taken_rests before joins s (Some faults.NoParent) locator at = unless_rests before joins s (asking_headers locator ∷ []) at
-taken_rests before joins s (Some other) locator at = over_rests before s.fetch.wanted joins reasons.BadBlock s
+taken_rests before joins s header None locator at = quiet_rests before joins s [] at refl
+taken_rests before joins s header (Some faults.Known) locator at = quiet_rests before joins s [] at refl
+taken_rests before joins s header (Some faults.NoParent) locator at = orphaned_rests before joins s header locator at
+taken_rests before joins s header (Some other) locator at = over_rests before s.fetch.wanted joins reasons.BadBlock s
+
+given_rests : (before : Hash256) (joins : Hash256 → Type 0) (s : SessionState) (header : Header) (refused : Option Fault) (locator : List Hash256) → s.resume_from ≡ Some before → Rests before s.fetch.wanted joins (given_told s header refused locator)
+unfolding given_told
+given_rests before joins s header refused locator at =
+    by_test (Rests before s.fetch.wanted joins) (is_orphan refused) (orphaned s (Some header) locator) (ends s []) (λ _. orphaned_rests before joins s (Some header) locator at) (λ _. quiet_rests before joins s [] at refl)
 
 excerpt_rests : (before : Hash256) (joins : Hash256 → Type 0) (s : SessionState) (excerpt : Excerpt) → s.resume_from ≡ Some before → Rests before s.fetch.wanted joins (excerpt_answered s excerpt)
 unfolding excerpt_answered
@@ -450,22 +477,23 @@ abbrev Needing : Answer → (Hash256 → Type 0) → Type 0
 Needing answer joins = (need : Need) → answer ≡ answers.Need need → (name : Hash256) → joins name
 
 replied_rests : (before : Hash256) (joins : Hash256 → Type 0) (s : SessionState) (item : Option Item) (stage : Stage) (answer : Answer) → s.resume_from ≡ Some before → Joining s item stage answer joins → Needing answer joins → Rests before s.fetch.wanted joins (replied s item stage answer)
-unfolding replied heads_told need_told served_told given_told pairs_told wanted_told news_told
+unfolding replied heads_told need_told served_told pairs_told wanted_told news_told
 replied_rests before joins s item stage answers.Kicked at joining needing = over_rests before s.fetch.wanted joins reasons.Kicked s
 replied_rests before joins s item Admit answers.Go at joining needing = processed_rests before joins s item at joining
 replied_rests before joins s item (About subject) (answers.Heads heads) at joining needing = heads_for_rests before joins s item (short_in item) heads at
 replied_rests before joins s item (About subject) (answers.Locator locator) at joining needing = unless_rests before joins s (asking_headers locator ∷ []) at
 replied_rests before joins s item (About subject) (answers.Need need) at joining needing =
-    let behind : List Message = unless_remembered s (cond (list_any is_block need.entries) (asking_headers need.locator ∷ []) []) in
-    quiet_rests before joins s (asking_for (filter_map tx_request need.entries) ++ behind) at
-    (none_of_both asks_for_headers (asking_for (filter_map tx_request need.entries)) behind (quiet_for (filter_map tx_request need.entries)) (ap (λ (list : List Message). list_any asks_for_headers list) (unless_quiet s _ (ap is_some at))))
+    let found = list_any is_block need.entries in
+    let behind = search found s need.locator in
+    quiet_rests before joins (seeking found s) (asking_for (filter_map tx_request need.entries) ++ behind) at
+    (none_of_both asks_for_headers (asking_for (filter_map tx_request need.entries)) behind (quiet_for (filter_map tx_request need.entries)) (ap (λ (list : List Message). list_any asks_for_headers list) (search_quiet found s need.locator (ap is_some at))))
 replied_rests before joins s item (About subject) (answers.TxTaken refused) at joining needing = quiet_rests before joins s [] at refl
-replied_rests before joins s item (About subject) (answers.Taken taken) at joining needing = taken_rests before joins s taken.refused taken.locator at
+replied_rests before joins s item (About subject) (answers.Taken taken) at joining needing = taken_rests before joins s (header_in item) taken.refused taken.locator at
 replied_rests before joins s item (About subject) (answers.Served pieces) at joining needing = quiet_rests before joins (with_made (shorts pieces) s) (served (next_nonce s) pieces) at (no_asking_served (next_nonce s) pieces)
 replied_rests before joins s item (About subject) (answers.Following headers) at joining needing = quiet_rests before joins s (messages.Headers headers ∷ []) at refl
 replied_rests before joins s item (About subject) (answers.Excerpt excerpt) at joining needing = excerpt_rests before joins s excerpt at
 replied_rests before joins s item Match (answers.Pairs pairs) at joining needing = paired_rests before joins s (short_in item) pairs at joining
-replied_rests before joins s item (Give block) (answers.Taken taken) at joining needing = unless_rests before joins s (before_parent taken.refused taken.locator) at
+replied_rests before joins s item (Give block) (answers.Taken taken) at joining needing = given_rests before joins s block.header taken.refused taken.locator at
 replied_rests before joins s item Wanted (answers.Need need) at joining needing =
     rests at (quiet_for (requests_of (need.near && s.peer.capable) (taken_on (blocks_in need.entries)).flight)) (λ name _. inr (needing need refl name))
 replied_rests before joins s item Fresh (answers.News news) at joining needing = rests at (quiet_news s item news) (λ _ e. inl e)

@@ -21,6 +21,7 @@ use Rattle.cb_payload.specs.declared.block_transactions.BlockTransactions.{Block
 use Rattle.cb_payload.specs.declared.block_transactions.BlockTransactionsRequest.{BlockTransactionsRequest}
 use Rattle.cb_payload.specs.declared.compact_block.HeaderAndShortIds.{HeaderAndShortIds}
 use Rattle.cb_payload.specs.declared.inventory.Inventory.{Inventory}
+use Rattle.cb_payload.specs.declared.inventory.Inventory.TheVariants as entry
 use Rattle.cb_payload.specs.declared.requests.CompactRelay.{CompactRelay}
 use Rattle.cb_payload.specs.declared.requests.HeadersRequest.{HeadersRequest}
 use Rattle.cb_payload.specs.declared.version.Version.{Version}
@@ -59,26 +60,25 @@ use Rattle.cb_peer_state.specs.declared.state.State.TheVariants.{Start, Greeted,
 use Rattle.cb_peer_state.specs.Questions.{fits, is_nil, question_of, short_in, told_of}
 use Rattle.cb_peer_state.specs.Laws.{completes, is_short_of, rebuilds_by}
 use Rattle.cb_peer_state.specs.Receiving.{Outcome, asks, by_phase, completed_by, ended, ends, falls_back, filled_by, greeting, heard_of, in_greeted, in_ready, in_start, introduced, last_hash, processed, received, short_heard, txs_heard}
-use Rattle.cb_peer_state.specs.Replying.{answered, before_first, before_parent, differ, excerpt_answered, given_told, heads_by, heads_for, heads_told, is_block, is_workless, more_behind, more_headers, need_told, news_told, paired, pairs_told, rebuilt_by, replied, served_told, short_told, is_untold, taken_told, tip_by, tip_told, tx_request, wanted_told, wish_told, without_brought}
+use Rattle.cb_peer_state.specs.Replying.{answered, before_first, differ, excerpt_answered, given_told, heads_by, heads_for, heads_told, is_block, is_workless, more_behind, more_headers, need_told, news_told, paired, pairs_told, rebuilt_by, replied, served_told, short_told, is_untold, taken_told, tip_by, tip_told, tx_request, wanted_told, wish_told, without_brought, header_in, is_orphan, orphaned, search, txs_told}
 use Rattle.cb_peer_state.specs.Session.{Stepped, arrives, open_step, pinged, stays, step_of, told}
 use Rattle.cb_peer_state.specs.declared.session_state.SessionState.{SessionState}
-use Rattle.cb_peer_state.specs.State.{freed, is_closed, is_ready, landing, next_nonce, next_ping, unless_remembered, with_fallen, with_lacking, with_made, with_partial}
+use Rattle.cb_peer_state.specs.State.{freed, is_closed, is_ready, landing, next_nonce, next_ping, unless_remembered, with_fallen, with_lacking, with_made, with_partial, seeking, with_child, with_unknown}
 use Rattle.cb_peer_state.proofs.Cases.{brought_cases, by_test, sent_at_end}
 use Rattle.cb_peer_state.proofs.Resuming.{resuming_cases}
-use Rattle.cb_peer_state.proofs.Behind.{unless_all}
+use Rattle.cb_peer_state.proofs.Behind.{unless_all, orphaned_cases, search_all}
 
 -- none of the messages meets the test
 abbrev pub None_of : (Message → Bool) → List Message → Type 0
 None_of test sent = list_any test sent ≡ false
 
--- a test that only headers, `getdata` and `ping` may meet
+-- a test that only headers, `getdata`, `inv` and `ping` may meet
 pub record IsMild (test : Message → Bool) : Type 0 where
   pub version : (v : Version) → test (messages.Version v) ≡ false
   pub verack : test messages.Verack ≡ false
   pub pong : (nonce : ℕ) → test (messages.Pong nonce) ≡ false
   pub send_headers : test messages.SendHeaders ≡ false
   pub send_compact : (relay : CompactRelay) → test (messages.SendCmpct relay) ≡ false
-  pub inv : (entries : List Inventory) → test (messages.Inv entries) ≡ false
   pub not_found : (entries : List Inventory) → test (messages.NotFound entries) ≡ false
   pub get_headers : (request : HeadersRequest) → test (messages.GetHeaders request) ≡ false
   pub tx : (tx : Tx) → test (messages.Tx tx) ≡ false
@@ -147,29 +147,32 @@ wish_none : (test : Message → Bool) (s : SessionState) (high : Bool) → IsMil
 wish_none test s high m =
     by_test (None_of test) (s.peer.capable && differ high s.compact.asked_high) (wish high ∷ []) [] (λ _. none_of_one test _ (m.send_compact _)) (λ _. refl)
 
-announcing_none : (test : Message → Bool) (by_headers : Bool) (tip : Hash256) (path : List Header) → IsMild test → ((headers : List Header) → test (messages.Headers headers) ≡ false) → None_of test (announcing by_headers tip path)
-announcing_none test by_headers tip [] m h = refl
-announcing_none test true tip (first ∷ others) m h = none_of_one test _ (h (first ∷ others))
-announcing_none test false tip (first ∷ others) m h = none_of_one test _ (m.inv _)
+announcing_none : (test : Message → Bool) (by_headers : Bool) (tip : Hash256) (path : List Header) → ((headers : List Header) → test (messages.Headers headers) ≡ false) → ((hash : Hash256) → test (messages.Inv (entry.Block hash ∷ [])) ≡ false) → None_of test (announcing by_headers tip path)
+announcing_none test by_headers tip [] h inv = refl
+announcing_none test true tip (first ∷ others) h inv = none_of_one test _ (h (first ∷ others))
+announcing_none test false tip (first ∷ others) h inv = none_of_one test _ (inv tip)
 
-tip_by_none : (test : Message → Bool) (s : SessionState) (news : News) (block : Option Block) → IsMild test → ((headers : List Header) → test (messages.Headers headers) ≡ false) → None_of test (tip_by s news block)
-tip_by_none test s news (Some block) m h = none_of_one test _ (m.short _)
-tip_by_none test s news None m h = announcing_none test (s.peer.by_headers && not news.long) news.tip news.path m h
+tip_by_none : (test : Message → Bool) (s : SessionState) (news : News) (block : Option Block) → IsMild test → ((headers : List Header) → test (messages.Headers headers) ≡ false) → ((hash : Hash256) → test (messages.Inv (entry.Block hash ∷ [])) ≡ false) → None_of test (tip_by s news block)
+tip_by_none test s news (Some block) m h inv = none_of_one test _ (m.short _)
+tip_by_none test s news None m h inv = announcing_none test (s.peer.by_headers && not news.long) news.tip news.path h inv
 
 -- a new tip is announced by headers, an inventory or a compact block
-pub tip_none : (test : Message → Bool) (s : SessionState) (news : News) → IsMild test → ((headers : List Header) → test (messages.Headers headers) ≡ false) → None_of test (tip_told s news)
-tip_none test s news m h = by_test (None_of test) (is_untold s news) [] (tip_by s news news.block) (λ _. refl) (λ _. tip_by_none test s news news.block m h)
+pub tip_none : (test : Message → Bool) (s : SessionState) (news : News) → IsMild test → ((headers : List Header) → test (messages.Headers headers) ≡ false) → ((hash : Hash256) → test (messages.Inv (entry.Block hash ∷ [])) ≡ false) → None_of test (tip_told s news)
+tip_none test s news m h inv = by_test (None_of test) (is_untold s news) [] (tip_by s news news.block) (λ _. refl) (λ _. tip_by_none test s news news.block m h inv)
 
-telling_none : (test : Message → Bool) (txids : List Hash256) → IsMild test → None_of test (telling txids)
-telling_none test [] m = refl
-telling_none test (first ∷ others) m = none_of_one test _ (m.inv _)
+telling_none : (test : Message → Bool) (txids : List Hash256) → ((entries : List Inventory) → test (messages.Inv entries) ≡ false) → None_of test (telling txids)
+telling_none test [] inv = refl
+telling_none test (first ∷ others) inv = none_of_one test _ (inv _)
+
+-- new transactions are announced by an inventory
+pub txs_none_by : (test : Message → Bool) (s : SessionState) (item : Option Item) (txids : List Hash256) → ((entries : List Inventory) → test (messages.Inv entries) ≡ false) → None_of test (txs_told s item txids)
+txs_none_by test s item txids inv = by_test (None_of test) s.peer.relays (telling (without_brought item txids)) [] (λ _. telling_none test (without_brought item txids) inv) (λ _. refl)
 
 request_none : (test : Message → Bool) (locator : List Hash256) → IsMild test → None_of test (asking_headers locator ∷ [])
 request_none test locator m = none_of_one test _ (m.get_headers _)
 
-before_none : (test : Message → Bool) (refused : Option Fault) (locator : List Hash256) → IsMild test → None_of test (before_parent refused locator)
-before_none test (Some faults.NoParent) locator m = request_none test locator m
-before_none test refused locator m = refl
+search_none : (test : Message → Bool) (found : Bool) (s : SessionState) (locator : List Hash256) → IsMild test → None_of test (search found s locator)
+search_none test found s locator m = search_all (None_of test) found s locator refl (request_none test locator m)
 
 -- ---- messages of the peer
 
@@ -227,7 +230,7 @@ heard_none test s short =
 
 ready_none : (test : Message → Bool) (s : SessionState) (message : Message) → IsMild test → NoneWhole test (λ hash. completes hash s.compact.partial (Some (Good message))) → None_of test (in_ready s message).messages
 unfolding in_ready
-ready_none test s (messages.Headers []) m whole = none_at_end test s [] refl
+ready_none test s (messages.Headers []) m whole = none_at_end test (with_unknown false s) [] refl
 ready_none test s (messages.Headers (first ∷ others)) m whole = refl
 ready_none test s (messages.Inv entries) m whole =
     elim (cases_Bool (is_nil (told_of entries))) [ inl none ↦ rw none (none_at_end test s [] refl) | inr told_some ↦ rw told_some refl ]
@@ -271,24 +274,36 @@ more_none test item m = refl
 
 heads_by_none : (test : Message → Bool) (s : SessionState) (item : Option Item) (refused : Option Fault) (locator : List Hash256) → IsMild test → None_of test (heads_by s item refused locator).messages
 heads_by_none test s item (Some faults.BadWork) locator m = refl
-heads_by_none test s item (Some faults.NoParent) locator m = none_at_end test s _ (unless_none test s (asking_headers locator ∷ []) (request_none test locator m))
-heads_by_none test s item (Some other) locator m = none_at_end test s [] refl
-heads_by_none test s item None locator m = none_at_end test s _ (unless_none test s (more_headers item) (more_none test item m))
+heads_by_none test s item (Some faults.NoParent) locator m = none_at_end test (seeking true s) _ (search_none test true s locator m)
+heads_by_none test s item (Some other) locator m = none_at_end test (with_unknown false s) [] refl
+heads_by_none test s item None locator m = none_at_end test (with_unknown false s) _ (unless_none test s (more_headers item) (more_none test item m))
 
-taken_none : (test : Message → Bool) (s : SessionState) (refused : Option Fault) (locator : List Hash256) → IsMild test → None_of test (taken_told s refused locator).messages
+orphaned_none : (test : Message → Bool) (s : SessionState) (header : Option Header) (locator : List Hash256) → IsMild test → None_of test (orphaned s header locator).messages
+orphaned_none test s header locator m =
+    orphaned_cases (λ (outcome : Outcome). None_of test outcome.messages) s header locator (none_at_end test (seeking true s) _ (search_none test true s locator m))
+    (λ of _ _. none_at_end test (with_child (block_hash of) of.prev s) [] refl)
+
+taken_none : (test : Message → Bool) (s : SessionState) (header : Option Header) (refused : Option Fault) (locator : List Hash256) → IsMild test → None_of test (taken_told s header refused locator).messages
 unfolding taken_told
-taken_none test s None locator m = none_at_end test s [] refl
-taken_none test s (Some faults.Known) locator m = none_at_end test s [] refl
-taken_none test s (Some faults.NoParent) locator m = none_at_end test s _ (unless_none test s (asking_headers locator ∷ []) (request_none test locator m))
-taken_none test s (Some other) locator m = refl
+taken_none test s header None locator m = none_at_end test s [] refl
+taken_none test s header (Some faults.Known) locator m = none_at_end test s [] refl
+taken_none test s header (Some faults.NoParent) locator m = orphaned_none test s header locator m
+taken_none test s header (Some other) locator m = refl
+
+given_none : (test : Message → Bool) (s : SessionState) (header : Header) (refused : Option Fault) (locator : List Hash256) → IsMild test → None_of test (given_told s header refused locator).messages
+unfolding given_told
+given_none test s header refused locator m =
+    by_test (λ (outcome : Outcome). None_of test outcome.messages) (is_orphan refused) (orphaned s (Some header) locator) (ends s []) (λ _. orphaned_none test s (Some header) locator m) (λ _. none_at_end test s [] refl)
 
 short_none : (test : Message → Bool) (s : SessionState) (hash : Hash256) (heads : Heads) → IsMild test → None_of test (short_told s hash heads).messages
 unfolding short_told
 short_none test s hash heads m =
-    let before : List Message = unless_remembered s (before_parent heads.refused heads.locator) in
-    let none : None_of test before = unless_none test s (before_parent heads.refused heads.locator) (before_none test heads.refused heads.locator m) in
-    by_test (λ (outcome : Outcome). None_of test outcome.messages) (is_workless heads.refused) (ended reasons.BadBlock s) (cond (is_nil heads.lack) (ends (landing hash s) before) (asks s before Match)) (λ _. refl)
-    (λ _. by_test (λ (outcome : Outcome). None_of test outcome.messages) (is_nil heads.lack) (ends (landing hash s) before) (asks s before Match) (λ _. none_at_end test (landing hash s) before none) (λ _. none))
+    let found : Bool = is_orphan heads.refused in
+    let before : List Message = search found s heads.locator in
+    let none : None_of test before = search_none test found s heads.locator m in
+    let t : SessionState = seeking found s in
+    by_test (λ (outcome : Outcome). None_of test outcome.messages) (is_workless heads.refused) (ended reasons.BadBlock s) (cond (is_nil heads.lack) (ends (landing hash t) before) (asks t before Match)) (λ _. refl)
+    (λ _. by_test (λ (outcome : Outcome). None_of test outcome.messages) (is_nil heads.lack) (ends (landing hash t) before) (asks t before Match) (λ _. none_at_end test (landing hash t) before none) (λ _. none))
 
 heads_for_none : (test : Message → Bool) (s : SessionState) (item : Option Item) (short : Option HeaderAndShortIds) (heads : Heads) → IsMild test → None_of test (heads_for s item short heads).messages
 heads_for_none test s item None heads m = heads_by_none test (with_lacking heads.lack (before_first item) s) item heads.refused heads.locator m
@@ -316,37 +331,37 @@ pub record IsCalm (test : Message → Bool) (s : SessionState) (item : Option It
   pub need : (need : Need) → None_of test (asking_for (filter_map tx_request need.entries))
   pub wanted : (need : Need) → stage ≡ Wanted → None_of test (asking_for (requests_of (need.near && s.peer.capable) (taken_on (blocks_in need.entries)).flight))
   pub tip : (news : News) → None_of test (tip_told s news)
+  pub txs : (news : News) → None_of test (txs_told s item news.txids)
   pub following : (headers : List Header) → answer ≡ answers.Following headers → test (messages.Headers headers) ≡ false
   pub whole : NoneWhole test (λ hash. rebuilds_by hash s.compact.partial item stage answer)
 
 need_none : (test : Message → Bool) (s : SessionState) (need : Need) → IsMild test → None_of test (asking_for (filter_map tx_request need.entries)) → None_of test (need_told s need).messages
 unfolding need_told
 need_none test s need m asked =
-    none_at_end test s _ (none_of_both test (asking_for (filter_map tx_request need.entries)) _ asked
-    (unless_none test s _ (by_test (None_of test) (list_any is_block need.entries) (asking_headers need.locator ∷ []) [] (λ _. request_none test need.locator m) (λ _. refl))))
+    let found : Bool = list_any is_block need.entries in
+    none_at_end test (seeking found s) _ (none_of_both test (asking_for (filter_map tx_request need.entries)) _ asked (search_none test found s need.locator m))
 
-news_none : (test : Message → Bool) (s : SessionState) (item : Option Item) (news : News) → IsMild test → None_of test (tip_told s news) → None_of test (news_told s item news).messages
+news_none : (test : Message → Bool) (s : SessionState) (item : Option Item) (news : News) → IsMild test → None_of test (tip_told s news) → None_of test (txs_told s item news.txids) → None_of test (news_told s item news).messages
 unfolding news_told
-news_none test s item news m tip =
-    none_of_both test (tip_told s news ++ telling (without_brought item news.txids)) (wish_told s news.high)
-    (none_of_both test (tip_told s news) (telling (without_brought item news.txids)) tip (telling_none test (without_brought item news.txids) m)) (wish_none test s news.high m)
+news_none test s item news m tip txs =
+    none_of_both test (tip_told s news ++ txs_told s item news.txids) (wish_told s news.high) (none_of_both test (tip_told s news) (txs_told s item news.txids) tip txs) (wish_none test s news.high m)
 
 replied_none : (test : Message → Bool) (s : SessionState) (item : Option Item) (stage : Stage) (answer : Answer) → IsMild test → IsCalm test s item stage answer → None_of test (replied s item stage answer).messages
-unfolding replied heads_told wanted_told given_told pairs_told served_told
+unfolding replied heads_told wanted_told pairs_told served_told
 replied_none test s item stage answers.Kicked m calm = refl
 replied_none test s item Admit answers.Go m calm = processed_none test s item m calm.whole
 replied_none test s item (About subject) (answers.Heads heads) m calm = heads_for_none test s item (short_in item) heads m
 replied_none test s item (About subject) (answers.Locator locator) m calm = none_at_end test s _ (unless_none test s (asking_headers locator ∷ []) (request_none test locator m))
 replied_none test s item (About subject) (answers.Need need) m calm = need_none test s need m (calm.need need)
 replied_none test s item (About subject) (answers.TxTaken refused) m calm = none_at_end test s [] refl
-replied_none test s item (About subject) (answers.Taken taken) m calm = taken_none test s taken.refused taken.locator m
+replied_none test s item (About subject) (answers.Taken taken) m calm = taken_none test s (header_in item) taken.refused taken.locator m
 replied_none test s item (About subject) (answers.Served pieces) m calm = none_at_end test (with_made (shorts pieces) s) (served (next_nonce s) pieces) (served_none test (next_nonce s) pieces m)
 replied_none test s item (About subject) (answers.Following headers) m calm = none_at_end test s _ (none_of_one test _ (calm.following headers refl))
 replied_none test s item (About subject) (answers.Excerpt excerpt) m calm = excerpt_answered_none test s excerpt m
 replied_none test s item Match (answers.Pairs pairs) m calm = paired_none test s (short_in item) pairs m calm.whole
-replied_none test s item (Give block) (answers.Taken taken) m calm = none_at_end test s _ (unless_none test s (before_parent taken.refused taken.locator) (before_none test taken.refused taken.locator m))
+replied_none test s item (Give block) (answers.Taken taken) m calm = given_none test s block.header taken.refused taken.locator m
 replied_none test s item Wanted (answers.Need need) m calm = calm.wanted need refl
-replied_none test s item Fresh (answers.News news) m calm = news_none test s item news m (calm.tip news)
+replied_none test s item Fresh (answers.News news) m calm = news_none test s item news m (calm.tip news) (calm.txs news)
 replied_none test s item stage other m calm = refl
 
 pub answered_none : (test : Message → Bool) (s : SessionState) (item : Option Item) (stage : Stage) (answer : Answer) → IsMild test → IsCalm test s item stage answer → None_of test (answered s item stage answer).messages

@@ -58,13 +58,13 @@ use Rattle.cb_peer_state.specs.Questions.{fits, is_nil, question_at, question_le
 use Rattle.cb_peer_state.specs.Event.{ends_at_once, is_reader_end}
 use Rattle.cb_peer_state.specs.Pings.{item_ping, ping_nonce, pong_nonce, pongs}
 use Rattle.cb_peer_state.specs.Receiving.{Outcome, asks, brought, by_compact, by_headers, by_phase, completed_by, ended, ends, falls_back, filled_by, given_up, gives, greeting, heard_of, in_greeted, in_ready, in_start, introduced, last_hash, processed, received, sends, short_heard, txs_heard}
-use Rattle.cb_peer_state.specs.Replying.{answered, before_first, before_parent, differ, excerpt_answered, given_told, heads_by, heads_for, heads_told, is_block, is_untold, is_workless, more_behind, more_headers, need_told, news_told, paired, pairs_told, rebuilt_by, replied, resumed, served_told, short_told, taken_told, tip_by, tip_told, tx_request, wanted_told, wish_told, without_brought}
+use Rattle.cb_peer_state.specs.Replying.{answered, before_first, differ, excerpt_answered, given_told, header_in, heads_by, heads_for, heads_told, is_block, is_orphan, is_untold, is_workless, more_behind, more_headers, need_told, news_told, orphaned, paired, pairs_told, rebuilt_by, replied, resumed, search, seeks, served_told, short_told, taken_told, tip_by, tip_told, tx_request, txs_told, wanted_told, wish_told, without_brought}
 use Rattle.cb_peer_state.specs.Session.{Stepped, arrives, closes, for_item, open_step, pending_of, pinged, stays, told}
 use Rattle.cb_peer_state.specs.declared.session_state.SessionState.{SessionState}
 use Rattle.cb_peer_state.proofs.Cases.{brought_cases, dropping_cases}
 use Rattle.cb_peer_state.proofs.Resuming.{resuming_cases}
-use Rattle.cb_peer_state.proofs.Behind.{found_more, unless_all}
-use Rattle.cb_peer_state.specs.State.{bare, freed, is_closed, is_ready, landing, next_nonce, unless_remembered, with_fallen, with_fetch, with_lacking, with_made, with_partial, with_peer, with_pending, with_probe, with_state}
+use Rattle.cb_peer_state.proofs.Behind.{found_more, orphaned_cases, search_all, unless_all}
+use Rattle.cb_peer_state.specs.State.{bare, freed, is_closed, is_ready, landing, next_nonce, seeking, unless_remembered, with_child, with_fallen, with_fetch, with_lacking, with_made, with_partial, with_peer, with_pending, with_probe, with_state, with_unknown}
 
 -- one of two
 if_either : {A : Type 0} (P : A → Type 0) (b : Bool) (x y : A) → P x → P y → P (cond b x y)
@@ -115,8 +115,21 @@ ends_comes s sent going =
 unless_plain : (s : SessionState) (sent : List Message) → pongs sent ≡ [] → pongs (unless_remembered s sent) ≡ []
 unless_plain s sent plain = unless_all (λ (list : List Message). pongs list ≡ []) s sent refl plain
 
+ends_plain : (s : SessionState) (sent : List Message) → pongs sent ≡ [] → is_closed s.state ≡ false → Comes (fixed_of s) 3 [] (ends s sent)
+ends_plain s sent plain going = renamed (fixed_of s) 3 (pongs sent) [] (ends s sent) plain (ends_comes s sent going)
+
 ends_unless : (s : SessionState) (sent : List Message) → pongs sent ≡ [] → is_closed s.state ≡ false → Comes (fixed_of s) 3 [] (ends s (unless_remembered s sent))
-ends_unless s sent plain going = renamed (fixed_of s) 3 (pongs (unless_remembered s sent)) [] (ends s (unless_remembered s sent)) (unless_plain s sent plain) (ends_comes s (unless_remembered s sent) going)
+ends_unless s sent plain going = ends_plain s (unless_remembered s sent) (unless_plain s sent plain) going
+
+search_plain : (found : Bool) (s : SessionState) (locator : List Hash256) → pongs (search found s locator) ≡ []
+search_plain found s locator = search_all (λ (list : List Message). pongs list ≡ []) found s locator refl refl
+
+seeks_comes : (s : SessionState) (locator : List Hash256) → is_closed s.state ≡ false → Comes (fixed_of s) 3 [] (seeks s locator)
+seeks_comes s locator going = ends_plain (seeking true s) (search true s locator) (search_plain true s locator) going
+
+orphaned_comes : (s : SessionState) (header : Option Header) (locator : List Hash256) → is_closed s.state ≡ false → Comes (fixed_of s) 3 [] (orphaned s header locator)
+orphaned_comes s header locator going =
+    orphaned_cases (Comes (fixed_of s) 3 []) s header locator (seeks_comes s locator going) (λ of _ _. ends_comes (with_child (block_hash of) of.prev s) [] going)
 
 -- ---- messages that are no pongs
 
@@ -145,10 +158,8 @@ asking_plain (first ∷ others) = refl
 pongs_append : (xs ys : List Message) → pongs xs ≡ [] → pongs ys ≡ [] → pongs (xs ++ ys) ≡ []
 pongs_append xs ys e f = filter_map-append pong_nonce xs ys ∙ ap (λ (ns : List ℕ). ns ++ pongs ys) e ∙ f
 
-need_plain : (s : SessionState) (entries : List Inventory) (b : Bool) (locator : List Hash256) → pongs (asking_for entries ++ unless_remembered s (cond b (asking_headers locator ∷ []) [])) ≡ []
-need_plain s entries b locator =
-    pongs_append (asking_for entries) (unless_remembered s (cond b (asking_headers locator ∷ []) [])) (asking_plain entries)
-    (unless_plain s (cond b (asking_headers locator ∷ []) []) (if_either (λ (sent : List Message). pongs sent ≡ []) b (asking_headers locator ∷ []) [] refl refl))
+need_plain : (s : SessionState) (entries : List Inventory) (found : Bool) (locator : List Hash256) → pongs (asking_for entries ++ search found s locator) ≡ []
+need_plain s entries found locator = pongs_append (asking_for entries) (search found s locator) (asking_plain entries) (search_plain found s locator)
 
 not_found_plain : (entries : List Inventory) → pongs (not_found entries) ≡ []
 not_found_plain [] = refl
@@ -170,10 +181,6 @@ excerpt_plain (excerpts.Refused fault) = refl
 excerpt_plain (excerpts.Part part) = refl
 excerpt_plain (excerpts.Whole block) = refl
 
-before_plain : (refused : Option Fault) (locator : List Hash256) → pongs (before_parent refused locator) ≡ []
-before_plain (Some faults.NoParent) locator = refl
-before_plain refused locator = refl
-
 announced_plain : (headers : Bool) (tip : Hash256) (path : List Header) → pongs (announcing headers tip path) ≡ []
 announced_plain headers tip [] = refl
 announced_plain true tip (first ∷ others) = refl
@@ -193,10 +200,13 @@ tip_plain s news = if_either (λ (sent : List Message). pongs sent ≡ []) (is_u
 wish_plain : (s : SessionState) (high : Bool) → pongs (wish_told s high) ≡ []
 wish_plain s high = if_either (λ (sent : List Message). pongs sent ≡ []) (s.peer.capable && differ high s.compact.asked_high) (wish high ∷ []) [] refl refl
 
-news_plain : (s : SessionState) (item : Option Item) (news : News) → pongs ((tip_told s news ++ telling (without_brought item news.txids)) ++ wish_told s news.high) ≡ []
+txs_plain : (s : SessionState) (item : Option Item) (txids : List Hash256) → pongs (txs_told s item txids) ≡ []
+txs_plain s item txids = if_either (λ (sent : List Message). pongs sent ≡ []) s.peer.relays (telling (without_brought item txids)) [] (telling_plain (without_brought item txids)) refl
+
+news_plain : (s : SessionState) (item : Option Item) (news : News) → pongs ((tip_told s news ++ txs_told s item news.txids) ++ wish_told s news.high) ≡ []
 news_plain s item news =
-    pongs_append (tip_told s news ++ telling (without_brought item news.txids)) (wish_told s news.high)
-    (pongs_append (tip_told s news) (telling (without_brought item news.txids)) (tip_plain s news) (telling_plain (without_brought item news.txids)))
+    pongs_append (tip_told s news ++ txs_told s item news.txids) (wish_told s news.high)
+    (pongs_append (tip_told s news) (txs_told s item news.txids) (tip_plain s news) (txs_plain s item news.txids))
     (wish_plain s news.high)
 
 -- ---- a message that was let in
@@ -205,7 +215,7 @@ introduced_comes : (s : SessionState) (version : Version) → is_closed s.state 
 unfolding introduced
 introduced_comes s version going =
     let greeted : SessionState =
-    with_state Greeted (with_peer (record { version = version.version; by_headers = s.peer.by_headers; capable = s.peer.capable; wants_high = s.peer.wants_high }) s) in
+    with_state Greeted (with_peer (record { version = version.version; relays = version.relay; by_headers = s.peer.by_headers; capable = s.peer.capable; wants_high = s.peer.wants_high }) s) in
     if_either (Comes (fixed_of s) 6 []) (version.nonce == s.settings.nonce) (ended reasons.SelfPeer s) (cond (int_lt version.version (pos 70001)) (ended reasons.OldPeer s) (sends greeted (greeting s.settings))) (stops reasons.SelfPeer (λ e. cc) refl)
     (if_either (Comes (fixed_of s) 6 []) (int_lt version.version (pos 70001)) (ended reasons.OldPeer s) (sends greeted (greeting s.settings)) (stops reasons.OldPeer (λ e. cc) refl) (goes refl refl (omega arith) (greeting_plain s.settings)))
 
@@ -216,7 +226,7 @@ in_start_comes s other going = goes going refl (omega arith) refl
 
 compact_either : (P : SessionState → Type 0) (relay : CompactRelay) (s : SessionState) → ((peer : Peer) → P (with_peer peer s)) → P s → P (by_compact relay s)
 compact_either P relay s changed same =
-    let peer : Peer = record { version = s.peer.version; by_headers = s.peer.by_headers; capable = true; wants_high = relay.high_bandwidth } in
+    let peer : Peer = record { version = s.peer.version; relays = s.peer.relays; by_headers = s.peer.by_headers; capable = true; wants_high = relay.high_bandwidth } in
     if_either P (relay.version == 1) (with_peer peer s) s (changed peer) same
 
 in_greeted_comes : (s : SessionState) (message : Message) → is_closed s.state ≡ false → Comes (fixed_of s) 6 [] (in_greeted s message)
@@ -276,7 +286,7 @@ unfolding in_ready
 in_ready_comes s messages.SendHeaders going = quiet_comes (by_headers s) going
 in_ready_comes s (messages.SendCmpct relay) going =
     compact_either (λ (x : SessionState). Comes (fixed_of s) 6 [] (ends x [])) relay s (λ peer. quiet_comes (with_peer peer s) going) (quiet_comes s going)
-in_ready_comes s (messages.Headers []) going = quiet_comes s going
+in_ready_comes s (messages.Headers []) going = quiet_comes (with_unknown false s) going
 in_ready_comes s (messages.Headers (first ∷ others)) going = goes going refl (omega arith) refl
 in_ready_comes s (messages.Inv entries) going =
     if_either (Comes (fixed_of s) 6 []) (is_nil (told_of entries)) (ends s []) (asks s [] (About subjects.Inventory)) (quiet_comes s going) (goes going refl (omega arith) refl)
@@ -322,20 +332,23 @@ processed_comes s (Some (Bad command fault)) going = stops reasons.BadMessage (�
 
 heads_by_comes : (s : SessionState) (item : Option Item) (refused : Option Fault) (locator : List Hash256) → is_closed s.state ≡ false → Comes (fixed_of s) 3 [] (heads_by s item refused locator)
 heads_by_comes s item (Some faults.BadWork) locator going = stops reasons.BadBlock (λ e. cc) refl
-heads_by_comes s item (Some faults.NoParent) locator going = ends_unless s (asking_headers locator ∷ []) refl going
-heads_by_comes s item (Some other) locator going = ends_comes s [] going
-heads_by_comes s item None locator going = ends_unless s (more_headers item) (more_headers_plain item) going
+heads_by_comes s item (Some faults.NoParent) locator going = seeks_comes s locator going
+heads_by_comes s item (Some other) locator going = ends_comes (with_unknown false s) [] going
+heads_by_comes s item None locator going =
+    ends_plain (with_unknown false s) (unless_remembered s (more_headers item)) (unless_plain s (more_headers item) (more_headers_plain item)) going
 
 -- the header of a compact block
 short_told_comes : (s : SessionState) (hash : Hash256) (heads : Heads) → is_closed s.state ≡ false → Comes (fixed_of s) 5 [] (short_told s hash heads)
 unfolding short_told
 short_told_comes s hash heads going =
-    let sent : List Message = unless_remembered s (before_parent heads.refused heads.locator) in
-    let plain : pongs sent ≡ [] = unless_plain s (before_parent heads.refused heads.locator) (before_plain heads.refused heads.locator) in
-    let known : Outcome = ends (landing hash s) sent in
-    if_either (Comes (fixed_of s) 5 []) (is_workless heads.refused) (ended reasons.BadBlock s) (cond (is_nil heads.lack) known (asks s sent Match)) (stops reasons.BadBlock (λ e. cc) refl)
-    (if_either (Comes (fixed_of s) 5 []) (is_nil heads.lack) known (asks s sent Match)
-    (more (fixed_of s) 3 5 [] known (omega arith) (renamed (fixed_of s) 3 (pongs sent) [] known plain (ends_comes (landing hash s) sent going)))
+    let found : Bool = is_orphan heads.refused in
+    let sent : List Message = search found s heads.locator in
+    let plain : pongs sent ≡ [] = search_plain found s heads.locator in
+    let known : Outcome = ends (landing hash (seeking found s)) sent in
+    let lacking : Outcome = asks (seeking found s) sent Match in
+    if_either (Comes (fixed_of s) 5 []) (is_workless heads.refused) (ended reasons.BadBlock s) (cond (is_nil heads.lack) known lacking) (stops reasons.BadBlock (λ e. cc) refl)
+    (if_either (Comes (fixed_of s) 5 []) (is_nil heads.lack) known lacking
+    (more (fixed_of s) 3 5 [] known (omega arith) (ends_plain (landing hash (seeking found s)) sent plain going))
     (goes going refl (omega arith) plain))
 
 heads_for_comes : (s : SessionState) (item : Option Item) (short : Option HeaderAndShortIds) (heads : Heads) → is_closed s.state ≡ false → Comes (fixed_of s) 5 [] (heads_for s item short heads)
@@ -366,9 +379,10 @@ pairs_told_comes : (s : SessionState) (item : Option Item) (pairs : List Pair) �
 unfolding pairs_told
 pairs_told_comes s item pairs going = paired_comes s (short_in item) pairs going
 
-given_told_comes : (s : SessionState) (refused : Option Fault) (locator : List Hash256) → is_closed s.state ≡ false → Comes (fixed_of s) 3 [] (given_told s refused locator)
+given_told_comes : (s : SessionState) (header : Header) (refused : Option Fault) (locator : List Hash256) → is_closed s.state ≡ false → Comes (fixed_of s) 3 [] (given_told s header refused locator)
 unfolding given_told
-given_told_comes s refused locator going = ends_unless s (before_parent refused locator) (before_plain refused locator) going
+given_told_comes s header refused locator going =
+    if_either (Comes (fixed_of s) 3 []) (is_orphan refused) (orphaned s (Some header) locator) (ends s []) (orphaned_comes s (Some header) locator going) (ends_comes s [] going)
 
 -- what the peer requested
 told_of_excerpt : (s : SessionState) (excerpt : Excerpt) → is_closed s.state ≡ false → Comes (fixed_of s) 3 [] (ends s (excerpt_told excerpt))
@@ -385,18 +399,18 @@ served_told_comes s pieces going =
     let sent : List Message = served (next_nonce s) pieces in
     renamed (fixed_of s) 3 (pongs sent) [] (ends (with_made (shorts pieces) s) sent) (served_plain (next_nonce s) pieces) (ends_comes (with_made (shorts pieces) s) sent going)
 
-taken_told_comes : (s : SessionState) (refused : Option Fault) (locator : List Hash256) → is_closed s.state ≡ false → Comes (fixed_of s) 3 [] (taken_told s refused locator)
+taken_told_comes : (s : SessionState) (header : Option Header) (refused : Option Fault) (locator : List Hash256) → is_closed s.state ≡ false → Comes (fixed_of s) 3 [] (taken_told s header refused locator)
 unfolding taken_told
-taken_told_comes s None locator going = ends_comes s [] going
-taken_told_comes s (Some faults.Known) locator going = ends_comes s [] going
-taken_told_comes s (Some faults.NoParent) locator going = ends_unless s (asking_headers locator ∷ []) refl going
-taken_told_comes s (Some other) locator going = stops reasons.BadBlock (λ e. cc) refl
+taken_told_comes s header None locator going = ends_comes s [] going
+taken_told_comes s header (Some faults.Known) locator going = ends_comes s [] going
+taken_told_comes s header (Some faults.NoParent) locator going = orphaned_comes s header locator going
+taken_told_comes s header (Some other) locator going = stops reasons.BadBlock (λ e. cc) refl
 
 need_told_comes : (s : SessionState) (need : Need) → is_closed s.state ≡ false → Comes (fixed_of s) 3 [] (need_told s need)
 unfolding need_told
 need_told_comes s need going =
-    let sent : List Message = asking_for (filter_map tx_request need.entries) ++ unless_remembered s (cond (list_any is_block need.entries) (asking_headers need.locator ∷ []) []) in
-    renamed (fixed_of s) 3 (pongs sent) [] (ends s sent) (need_plain s (filter_map tx_request need.entries) (list_any is_block need.entries) need.locator) (ends_comes s sent going)
+    let found : Bool = list_any is_block need.entries in
+    ends_plain (seeking found s) (asking_for (filter_map tx_request need.entries) ++ search found s need.locator) (need_plain s (filter_map tx_request need.entries) found need.locator) going
 
 wanted_told_comes : (s : SessionState) (need : Need) → is_closed s.state ≡ false → Comes (fixed_of s) 2 [] (wanted_told s need)
 unfolding wanted_told
@@ -424,12 +438,12 @@ replied_comes q s item (About subject) (answers.Heads heads) fit going = heads_t
 replied_comes q s item (About subject) (answers.Locator locator) fit going = later s (ends s (unless_remembered s (asking_headers locator ∷ []))) (ends_unless s (asking_headers locator ∷ []) refl going)
 replied_comes q s item (About subject) (answers.Need need) fit going = later s (need_told s need) (need_told_comes s need going)
 replied_comes q s item (About subject) (answers.TxTaken refused) fit going = later s (ends s []) (ends_comes s [] going)
-replied_comes q s item (About subject) (answers.Taken taken) fit going = later s (taken_told s taken.refused taken.locator) (taken_told_comes s taken.refused taken.locator going)
+replied_comes q s item (About subject) (answers.Taken taken) fit going = later s (taken_told s (header_in item) taken.refused taken.locator) (taken_told_comes s (header_in item) taken.refused taken.locator going)
 replied_comes q s item (About subject) (answers.Served pieces) fit going = later s (served_told s pieces) (served_told_comes s pieces going)
 replied_comes q s item (About subject) (answers.Following headers) fit going = later s (ends s (messages.Headers headers ∷ [])) (ends_comes s (messages.Headers headers ∷ []) going)
 replied_comes q s item (About subject) (answers.Excerpt excerpt) fit going = later s (excerpt_answered s excerpt) (excerpt_answered_comes s excerpt going)
 replied_comes q s item Match (answers.Pairs pairs) fit going = pairs_told_comes s item pairs going
-replied_comes q s item (Give block) (answers.Taken taken) fit going = given_told_comes s taken.refused taken.locator going
+replied_comes q s item (Give block) (answers.Taken taken) fit going = given_told_comes s block.header taken.refused taken.locator going
 replied_comes q s item Wanted (answers.Need need) fit going = wanted_told_comes s need going
 replied_comes q s item Fresh (answers.News news) fit going = news_told_comes s item news going
 replied_comes q s item stage other fit going = goes going refl (omega arith) refl
@@ -472,7 +486,7 @@ question_same s pending item (Give block) = refl
 question_same s pending item Wanted = refl
 question_same s pending item Fresh = refl
 
-question_probed : (s : SessionState) (item : Option Item) (stage : Stage) → question_of (with_probe s) item stage ≡ question_of s item stage
+question_probed : (s : SessionState) (item : Option Item) (stage : Stage) → question_of (with_unknown false (with_probe s)) item stage ≡ question_of s item stage
 question_probed s item Admit = refl
 question_probed s item (About subjects.Headers) = refl
 question_probed s item (About subjects.Locator) = refl
@@ -488,7 +502,7 @@ question_probed s item Wanted = refl
 question_probed s item Fresh = refl
 
 -- a `ping` leaves an open question as it is
-probed_same : (s : SessionState) (pending : Option Pending) → question_at (with_probe s) pending ≡ question_at s pending
+probed_same : (s : SessionState) (pending : Option Pending) → question_at (with_unknown false (with_probe s)) pending ≡ question_at s pending
 probed_same s None = refl
 probed_same s (Some pending) = ap (λ (question : Question). Some question) (question_probed s pending.item pending.stage)
 

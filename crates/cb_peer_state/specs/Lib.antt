@@ -7,5 +7,6 @@ pub mod Questions
 pub mod Receiving
 pub mod Replying
 pub mod Resuming
+pub mod Seeking
 pub mod Session
 pub mod State

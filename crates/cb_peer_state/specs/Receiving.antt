@@ -1,7 +1,7 @@
 -- How a session handles its peer's messages: one line for each message. Sources: Bitcoin's
 -- peer-to-peer protocol; BIP 31 (pong), BIP 130 (sendheaders), BIP 152 (sendcmpct, cmpctblock,
 -- getblocktxn, blocktxn). 'Own' marks a choice of this node.
-use Rattle.std.specs.Prelude.{pos, true, not, ◌==◌, int_lt, if◌then◌else◌, List, [], ◌∷◌, fold, Option, Some, None, Result, Ok, Err}
+use Rattle.std.specs.Prelude.{pos, true, not, ◌==◌, int_lt, if◌then◌else◌, List, [], ◌∷◌, fold, Option, Some, None, Result, Ok, Err, false}
 use Rattle.cb_base.specs.declared.hash.Hash256.{Hash256}
 use Rattle.cb_block.specs.declared.block.Block.{Block}
 use Rattle.cb_block.specs.declared.header.Header.{Header}
@@ -36,7 +36,7 @@ use Rattle.cb_peer_state.specs.declared.state.State.TheVariants.{Start, Greeted,
 use Rattle.cb_peer_state.specs.Questions.{is_nil, told_of}
 use Rattle.cb_block.specs.Decision.{is_sound_block}
 use Rattle.cb_peer_state.specs.declared.session_state.SessionState.{SessionState}
-use Rattle.cb_peer_state.specs.State.{dropping, is_ready, landing, over, with_fallen, with_fetch, with_marks, with_partial, with_peer, with_state}
+use Rattle.cb_peer_state.specs.State.{dropping, is_ready, landing, over, with_fallen, with_fetch, with_marks, with_partial, with_peer, with_state, with_unknown}
 
 -- The result of a message or an answer: the session after it, the messages to send, and the next
 -- question, if any.
@@ -78,6 +78,7 @@ by_headers s =
     with_peer
     (record {
       version = s.peer.version;
+      relays = s.peer.relays;
       by_headers = true;
       capable = s.peer.capable;
       wants_high = s.peer.wants_high;
@@ -91,6 +92,7 @@ by_compact relay s =
     then with_peer
     (record {
       version = s.peer.version;
+      relays = s.peer.relays;
       by_headers = s.peer.by_headers;
       capable = true;
       wants_high = relay.high_bandwidth;
@@ -107,7 +109,7 @@ greeting settings =
     else messages.Verack ∷ []
 
 -- The peer's `version`. The session ends if its nonce is our own, or if the version is below 70001
--- (own).
+-- (own). It tells whether the peer wants transactions to be announced (BIP 37).
 unfoldable pub introduced : SessionState → Version → Outcome
 introduced s version =
     if version.nonce == s.settings.nonce then ended reasons.SelfPeer s
@@ -118,6 +120,7 @@ introduced s version =
     (with_peer
     (record {
       version = version.version;
+      relays = version.relay;
       by_headers = s.peer.by_headers;
       capable = s.peer.capable;
       wants_high = s.peer.wants_high;
@@ -193,11 +196,12 @@ completed_by s given (Some partial) =
 unfoldable pub txs_heard : SessionState → BlockTransactions → Outcome
 txs_heard s given = completed_by s given s.compact.partial
 
--- A message once the handshake is complete.
+-- A message once the handshake is complete. An empty `headers` answers a request for what is
+-- unknown.
 unfoldable pub in_ready : SessionState → Message → Outcome
 in_ready s messages.SendHeaders = ends (by_headers s) []
 in_ready s (messages.SendCmpct relay) = ends (by_compact relay s) []
-in_ready s (messages.Headers []) = ends s []
+in_ready s (messages.Headers []) = ends (with_unknown false s) []
 in_ready s (messages.Headers (first ∷ others)) =
     asks (heard_of (last_hash first others) s) [] (About subjects.Headers)
 in_ready s (messages.Inv entries) =

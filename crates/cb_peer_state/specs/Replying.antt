@@ -41,7 +41,7 @@ use Rattle.cb_peer_state.specs.declared.state.CloseReason.TheVariants as reasons
 use Rattle.cb_peer_state.specs.Receiving.{Outcome, asks, ended, ends, falls_back, gives, last_hash, processed, sends}
 use Rattle.cb_peer_state.specs.declared.session_state.SessionState.{SessionState}
 use Rattle.cb_peer_state.specs.Questions.{is_nil, short_in}
-use Rattle.cb_peer_state.specs.State.{landing, next_nonce, unless_remembered, with_asked_high, with_fetch, with_lacking, with_made, with_marks, with_partial, with_resume_from}
+use Rattle.cb_peer_state.specs.State.{awaits, landing, may_seek, next_nonce, seeking, unless_remembered, with_asked_high, with_child, with_fetch, with_lacking, with_made, with_marks, with_partial, with_resume_from, with_unknown}
 
 -- After a full message of 2,000 headers, the headers after them are requested.
 abbrev pub more_behind : List Header → List Message
@@ -60,45 +60,73 @@ abbrev pub before_first : Option Item → Option Hash256
 before_first (Some (Good (messages.Headers (first ∷ others)))) = Some first.prev
 before_first item = None
 
+-- ---- what is unknown: the parent of a header or a block, or an announced block. One request for
+-- headers at a time is sent for it (own), and none while a header is remembered.
+
+-- Whether the parent is unknown, or its block isn't here.
+abbrev pub is_orphan : Option Fault → Bool
+is_orphan (Some faults.NoParent) = true
+is_orphan refused = false
+
+-- The request for headers after a locator, if something unknown was found and it may be sent.
+abbrev pub search : Bool → SessionState → List Hash256 → List Message
+search found s locator = if found && may_seek s then asking_headers locator ∷ [] else []
+
+-- Something is unknown: headers are requested if they may be, and the item is done.
+abbrev pub seeks : SessionState → List Hash256 → Outcome
+seeks s locator = ends (seeking true s) (search true s locator)
+
+-- A block came before its parent. If that is in flight or wanted, the block is queued behind it.
+-- Else headers are requested.
+abbrev pub orphaned : SessionState → Option Header → List Hash256 → Outcome
+orphaned s None locator = seeks s locator
+orphaned s (Some header) locator =
+    if awaits s header.prev
+    then ends (with_child (block_hash header) header.prev s) []
+    else seeks s locator
+
+-- The header of the block that an item brought, if it did.
+abbrev pub header_in : Option Item → Option Header
+header_in (Some (Good (messages.Block block))) = Some block.header
+header_in item = None
+
 -- The result of `headers`, once its missing blocks are noted (`with_lacking`). A header without
--- proof of work ends the session. For an unknown parent the headers before it are requested.
+-- proof of work ends the session. For an unknown parent headers are requested. Any other result
+-- answers such a request.
 abbrev pub heads_by : SessionState → Option Item → Option Fault → List Hash256 → Outcome
 heads_by s item (Some faults.BadWork) locator = ended reasons.BadBlock s
-heads_by s item (Some faults.NoParent) locator =
-    ends s (unless_remembered s (asking_headers locator ∷ []))
-heads_by s item (Some other) locator = ends s []
-heads_by s item None locator = ends s (unless_remembered s (more_headers item))
+heads_by s item (Some faults.NoParent) locator = seeks s locator
+heads_by s item (Some other) locator = ends (with_unknown false s) []
+heads_by s item None locator =
+    ends (with_unknown false s) (unless_remembered s (more_headers item))
 
--- The result of `block`. A block already known is ignored. For an unknown parent the headers before
--- it are requested. Any other refusal ends the session.
-unfoldable pub taken_told : SessionState → Option Fault → List Hash256 → Outcome
-taken_told s None locator = ends s []
-taken_told s (Some faults.Known) locator = ends s []
-taken_told s (Some faults.NoParent) locator =
-    ends s (unless_remembered s (asking_headers locator ∷ []))
-taken_told s (Some other) locator = ended reasons.BadBlock s
-
--- The headers before one with an unknown parent are requested.
-abbrev pub before_parent : Option Fault → List Hash256 → List Message
-before_parent (Some faults.NoParent) locator = asking_headers locator ∷ []
-before_parent refused locator = []
+-- The result of `block`. A block already known is ignored. One whose parent is unknown waits for
+-- it, or headers are requested. Any other refusal ends the session.
+unfoldable pub taken_told : SessionState → Option Header → Option Fault → List Hash256 → Outcome
+taken_told s header None locator = ends s []
+taken_told s header (Some faults.Known) locator = ends s []
+taken_told s header (Some faults.NoParent) locator = orphaned s header locator
+taken_told s header (Some other) locator = ended reasons.BadBlock s
 
 -- A rebuilt block isn't held against its peer, whatever the hall says of it.
-unfoldable pub given_told : SessionState → Option Fault → List Hash256 → Outcome
-given_told s refused locator = ends s (unless_remembered s (before_parent refused locator))
+unfoldable pub given_told : SessionState → Header → Option Fault → List Hash256 → Outcome
+given_told s header refused locator =
+    if is_orphan refused then orphaned s (Some header) locator else ends s []
 
 abbrev pub is_workless : Option Fault → Bool
 is_workless (Some faults.BadWork) = true
 is_workless refused = false
 
--- The header of a compact block. One without work ends the session. If its block isn't missing it
--- is no longer in flight, and the item is done. Else the mempool is searched for its transactions.
+-- The header of a compact block. One without work ends the session. For an unknown parent headers
+-- are requested. If its block isn't missing it is no longer in flight, and the item is done. Else
+-- the mempool is searched for its transactions.
 unfoldable pub short_told : SessionState → Hash256 → Heads → Outcome
 short_told s hash heads =
+    let found = is_orphan heads.refused in
+    let sent = search found s heads.locator in
     if is_workless heads.refused then ended reasons.BadBlock s
-    else if is_nil heads.lack
-    then ends (landing hash s) (unless_remembered s (before_parent heads.refused heads.locator))
-    else asks s (unless_remembered s (before_parent heads.refused heads.locator)) Match
+    else if is_nil heads.lack then ends (landing hash (seeking found s)) sent
+    else asks (seeking found s) sent Match
 
 -- What comes of the transactions of the mempool that have a compact block's short ids: the block is
 -- given, or what it lacks is requested and it replaces one that was being rebuilt, or it is
@@ -150,10 +178,9 @@ is_block other = false
 -- The result of `inv`: wanted transactions are requested, and headers if a block is wanted.
 unfoldable pub need_told : SessionState → Need → Outcome
 need_told s need =
-    ends s
-    (asking_for (filter_map tx_request need.entries)
-    ++ unless_remembered s
-    (if list_any is_block need.entries then asking_headers need.locator ∷ [] else []))
+    let found = list_any is_block need.entries in
+    ends (seeking found s)
+    (asking_for (filter_map tx_request need.entries) ++ search found s need.locator)
 
 -- Queued blocks that are still needed are requested, the first 16 of them: as a compact block (type
 -- 4) if one alone is needed, on top of the tip, from a peer that supports compact blocks; else
@@ -209,13 +236,17 @@ without_brought (Some (Good (messages.Tx tx))) txids =
     filter (λ txid. not (same (double_hash (tx_text tx)) txid)) txids
 without_brought item txids = txids
 
+-- The announcement of new transactions, if the peer wants them announced (BIP 37).
+abbrev pub txs_told : SessionState → Option Item → List Hash256 → List Message
+txs_told s item txids = if s.peer.relays then telling (without_brought item txids) else []
+
 -- News: the tip and transactions are announced, and how the peer is to announce its own.
 unfoldable pub news_told : SessionState → Option Item → News → Outcome
 news_told s item news =
     sends
     (with_asked_high (high_asked s news.high) (with_made (tip_made s news)
     (with_marks (record { heard = s.marks.heard; tip = Some news.tip; next = news.next }) s)))
-    ((tip_told s news ++ telling (without_brought item news.txids)) ++ wish_told s news.high)
+    ((tip_told s news ++ txs_told s item news.txids) ++ wish_told s news.high)
 
 -- The hall's leave to process an item or a tick.
 abbrev pub is_leave : Stage → Answer → Bool
@@ -231,12 +262,14 @@ replied s item (About subject) (answers.Locator locator) =
     ends s (unless_remembered s (asking_headers locator ∷ []))
 replied s item (About subject) (answers.Need need) = need_told s need
 replied s item (About subject) (answers.TxTaken refused) = ends s []
-replied s item (About subject) (answers.Taken taken) = taken_told s taken.refused taken.locator
+replied s item (About subject) (answers.Taken taken) =
+    taken_told s (header_in item) taken.refused taken.locator
 replied s item (About subject) (answers.Served pieces) = served_told s pieces
 replied s item (About subject) (answers.Following headers) = ends s (messages.Headers headers ∷ [])
 replied s item (About subject) (answers.Excerpt excerpt) = excerpt_answered s excerpt
 replied s item Match (answers.Pairs pairs) = pairs_told s item pairs
-replied s item (Give block) (answers.Taken taken) = given_told s taken.refused taken.locator
+replied s item (Give block) (answers.Taken taken) =
+    given_told s block.header taken.refused taken.locator
 replied s item Wanted (answers.Need need) = wanted_told s need
 replied s item Fresh (answers.News news) = news_told s item news
 replied s item stage other = sends s []

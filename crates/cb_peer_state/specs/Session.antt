@@ -3,7 +3,9 @@
 -- are.
 use Rattle.std.specs.Prelude.{Bool, true, false, not, ◌&&◌, ◌||◌, List, [], ◌∷◌, Option, Some, None, option_map, if◌then◌else◌}
 use Rattle.cb_base.specs.declared.hash.Hash256.{Hash256}
+use Rattle.cb_base.specs.declared.fault.Fault.{Fault}
 use Rattle.cb_block.specs.Decision.{is_hashed}
+use Rattle.cb_block.specs.declared.header.Header.{Header}
 use Rattle.cb_payload.specs.declared.compact_block.HeaderAndShortIds.{HeaderAndShortIds}
 use Rattle.cb_wire.specs.declared.item.Item.{Item}
 use Rattle.cb_wire.specs.declared.message.Message.{Message}
@@ -15,7 +17,7 @@ use Rattle.cb_journal.specs.declared.question.Question.{Question}
 use Rattle.cb_journal.specs.declared.question.Question.TheVariants as questions
 use Rattle.cb_talk.specs.Greeting.{our_version}
 use Rattle.cb_peer_state.specs.declared.stage.Stage.{Stage}
-use Rattle.cb_peer_state.specs.declared.stage.Stage.TheVariants.{Admit, Fresh, Match}
+use Rattle.cb_peer_state.specs.declared.stage.Stage.TheVariants.{Admit, About, Fresh, Give, Match}
 use Rattle.cb_peer_state.specs.declared.event.Event.{Event}
 use Rattle.cb_peer_state.specs.declared.event.Event.TheVariants as events
 use Rattle.cb_peer_state.specs.declared.settings.Settings.{Settings}
@@ -25,10 +27,10 @@ use Rattle.cb_peer_state.specs.declared.state.CloseReason.TheVariants as reasons
 use Rattle.cb_peer_state.specs.declared.state.State.{State}
 use Rattle.cb_peer_state.specs.declared.state.State.TheVariants.{Ready}
 use Rattle.cb_peer_state.specs.Questions.{fits, is_nil, question_of, short_in}
-use Rattle.cb_peer_state.specs.Replying.{answered, is_workless}
+use Rattle.cb_peer_state.specs.Replying.{answered, header_in, is_orphan, is_workless}
 use Rattle.cb_peer_state.specs.Receiving.{Outcome, asks}
 use Rattle.cb_peer_state.specs.declared.session_state.SessionState.{SessionState}
-use Rattle.cb_peer_state.specs.State.{freed, is_closed, is_count_of, is_partial, is_ready, next_ping, over, with_pending, with_probe}
+use Rattle.cb_peer_state.specs.State.{awaits, freed, is_closed, is_count_of, is_partial, is_ready, next_ping, over, with_pending, with_probe, with_unknown}
 
 -- The result of a step: the session after it, the messages to send, and the question to ask.
 pub record Stepped : Type 0 where
@@ -76,11 +78,11 @@ told (Some pending) s answer =
     else stays s
 
 -- One `ping` with the next nonce is sent (BIP 31). Nothing is asked, and an open question stays
--- open.
+-- open. A request for what is unknown counts no more, so another may be sent.
 abbrev pub pinged : SessionState → Stepped
 pinged s =
     record {
-      session = with_probe s;
+      session = with_unknown false (with_probe s);
       messages = messages.Ping (next_ping s) ∷ [];
       question = None;
     }
@@ -148,8 +150,17 @@ weighs_answer (answers.Heads heads) = not (is_workless heads.refused) && not (is
 weighs_answer (answers.Need need) = not (is_nil need.entries)
 weighs_answer answer = false
 
+-- A block that came before its parent is queued for download.
+abbrev pub weighs_child : SessionState → Option Header → Option Fault → Bool
+weighs_child s (Some header) refused = is_orphan refused && awaits s header.prev
+weighs_child s None refused = false
+
 -- What an answer leads to at a stage is hashed, copied or listed.
 abbrev pub weighs_at : SessionState → Option Item → Stage → Answer → Bool
+weighs_at s item (About subject) (answers.Taken taken) =
+    weighs_child s (header_in item) taken.refused
+weighs_at s item (Give block) (answers.Taken taken) =
+    weighs_child s (Some block.header) taken.refused
 weighs_at s item Admit answers.Go = weighs_admitted s item
 weighs_at s item Match (answers.Pairs pairs) = weighs_short (short_in item)
 weighs_at s item Fresh (answers.News news) = weighs_txids item news.txids

@@ -1,10 +1,10 @@
 -- What a session keeps about its peer.
-use Rattle.std.specs.Prelude.{ℕ, ◌+◌, ◌%◌, ◌^◌, ◌==◌, pos, Bool, true, false, List, [], codes, length, Option, None, Some, is_some, if◌then◌else◌}
+use Rattle.std.specs.Prelude.{ℕ, ◌+◌, ◌%◌, ◌^◌, ◌==◌, ◌&&◌, ◌||◌, not, pos, Bool, true, false, List, [], codes, length, Option, None, Some, is_some, if◌then◌else◌}
 use Rattle.cb_base.specs.declared.hash.Hash256.{Hash256}
 use Rattle.cb_tx.specs.declared.tx.Tx.{Tx}
 use Rattle.cb_chain.specs.Entries.{block_hash, same}
 use Rattle.cb_compact.specs.Slots.{Unfilled, missing}
-use Rattle.cb_fetch.specs.Fetching.{FetchState, fallen_back, idle, is_fetched, landed, leaves_out, wanting_all}
+use Rattle.cb_fetch.specs.Fetching.{FetchState, fallen_back, idle, is_fetched, landed, leaves_out, wanting, wanting_all, wants_none}
 use Rattle.cb_wire.specs.declared.message.Message.{Message}
 use Rattle.cb_peer_state.specs.declared.compact.CompactState.{CompactState}
 use Rattle.cb_peer_state.specs.declared.session_state.SessionState.{SessionState}
@@ -19,7 +19,14 @@ use Rattle.cb_peer_state.specs.declared.state.State.TheVariants.{Start, Ready, C
 
 -- A peer that has sent nothing.
 abbrev pub stranger : Peer
-stranger = record { version = pos 0; by_headers = false; capable = false; wants_high = false }
+stranger =
+    record {
+      version = pos 0;
+      relays = true;
+      by_headers = false;
+      capable = false;
+      wants_high = false;
+    }
 
 -- Nothing was announced.
 abbrev pub unmarked : Marks
@@ -39,6 +46,7 @@ bare settings state = record {
   marks = unmarked;
   fetch = idle;
   resume_from = None;
+  unknown = false;
   compact = no_compact;
   probes = 0;
   pending = None;
@@ -68,6 +76,7 @@ with_state state s = record {
   marks = s.marks;
   fetch = s.fetch;
   resume_from = s.resume_from;
+  unknown = s.unknown;
   compact = s.compact;
   probes = s.probes;
   pending = s.pending;
@@ -81,6 +90,7 @@ with_peer peer s = record {
   marks = s.marks;
   fetch = s.fetch;
   resume_from = s.resume_from;
+  unknown = s.unknown;
   compact = s.compact;
   probes = s.probes;
   pending = s.pending;
@@ -94,6 +104,7 @@ with_marks marks s = record {
   marks = marks;
   fetch = s.fetch;
   resume_from = s.resume_from;
+  unknown = s.unknown;
   compact = s.compact;
   probes = s.probes;
   pending = s.pending;
@@ -107,6 +118,7 @@ with_fetch fetch s = record {
   marks = s.marks;
   fetch = fetch;
   resume_from = s.resume_from;
+  unknown = s.unknown;
   compact = s.compact;
   probes = s.probes;
   pending = s.pending;
@@ -120,6 +132,7 @@ with_pending pending s = record {
   marks = s.marks;
   fetch = s.fetch;
   resume_from = s.resume_from;
+  unknown = s.unknown;
   compact = s.compact;
   probes = s.probes;
   pending = pending;
@@ -133,6 +146,7 @@ with_compact compact s = record {
   marks = s.marks;
   fetch = s.fetch;
   resume_from = s.resume_from;
+  unknown = s.unknown;
   compact = compact;
   probes = s.probes;
   pending = s.pending;
@@ -146,10 +160,29 @@ with_resume_from hash s = record {
   marks = s.marks;
   fetch = s.fetch;
   resume_from = hash;
+  unknown = s.unknown;
   compact = s.compact;
   probes = s.probes;
   pending = s.pending;
 }
+
+abbrev pub with_unknown : Bool → SessionState → SessionState
+with_unknown unknown s = record {
+  settings = s.settings;
+  state = s.state;
+  peer = s.peer;
+  marks = s.marks;
+  fetch = s.fetch;
+  resume_from = s.resume_from;
+  unknown = unknown;
+  compact = s.compact;
+  probes = s.probes;
+  pending = s.pending;
+}
+
+-- Blocks are in flight or wanted.
+abbrev pub is_fetching : FetchState → Bool
+is_fetching fetch = not (length fetch.flight == 0) || not (wants_none fetch)
 
 -- ---- blocks that had no room among the wanted ones
 
@@ -162,8 +195,9 @@ remembers s = is_some s.resume_from
 abbrev pub unless_remembered : SessionState → List Message → List Message
 unless_remembered s sent = if remembers s then [] else sent
 
--- Blocks are missing, in order. They become wanted as far as there is room. If some had none, the
--- header before them is remembered. While one is remembered, nothing becomes wanted.
+-- Blocks are missing, in order. They stand last among the wanted ones, in this order, as far as
+-- there is room, but for those in flight. If some had none, the header before them is remembered.
+-- While one is remembered, what is wanted stays as it is.
 abbrev pub with_lacking : List Hash256 → Option Hash256 → SessionState → SessionState
 with_lacking lack before s =
     with_resume_from
@@ -185,6 +219,29 @@ with_fallen hash before s =
     then None
     else Some before)
     (with_fetch (fallen_back hash s.fetch) s)
+
+-- ---- what is unknown
+
+-- Headers may be requested for something unknown: none were that weren't answered yet, and no
+-- header is remembered.
+abbrev pub may_seek : SessionState → Bool
+may_seek s = not s.unknown && not (remembers s)
+
+-- Something unknown was found, or wasn't. If it was, it is noted that headers are requested for it.
+abbrev pub seeking : Bool → SessionState → SessionState
+seeking found s = with_unknown ((found && may_seek s) || s.unknown) s
+
+-- The block is in flight or wanted, and no header is remembered. So a child of it can wait for it.
+abbrev pub awaits : SessionState → Hash256 → Bool
+awaits s hash = not (remembers s) && is_fetched s.fetch hash
+
+-- A block came before its parent, which is in flight or wanted. It is queued for download behind
+-- it. If it has no room, the header before it is remembered.
+abbrev pub with_child : Hash256 → Hash256 → SessionState → SessionState
+with_child hash parent s =
+    with_resume_from
+    (if is_fetched (wanting s.fetch hash) hash then s.resume_from else Some parent)
+    (with_fetch (wanting s.fetch hash) s)
 
 -- ---- compact blocks (BIP 152)
 
@@ -225,6 +282,7 @@ with_probe s = record {
   marks = s.marks;
   fetch = s.fetch;
   resume_from = s.resume_from;
+  unknown = s.unknown;
   compact = s.compact;
   probes = (s.probes + 1) % 2 ^ 64;
   pending = s.pending;

@@ -12,7 +12,6 @@ ghost use Rattle.cb_journal.specs.declared.question.Question.{Question};
 ghost use Rattle.cb_journal.specs.declared.question.Question.TheVariants as questions;
 ghost use Rattle.cb_state.specs.declared.news.News.{News};
 ghost use Rattle.cb_state.specs.declared.serving.Piece.{Piece};
-ghost use Rattle.cb_talk.specs.Announcing.{telling};
 ghost use Rattle.cb_talk.specs.Inventory.{asking_block};
 ghost use Rattle.cb_talk.specs.Serving.{served};
 ghost use Rattle.cb_wire.specs.declared.item.Item.{Item};
@@ -26,7 +25,7 @@ ghost use Rattle.cb_peer_state.specs.declared.pending.Pending.{Pending};
 ghost use Rattle.cb_peer_state.specs.Questions.{fits, questions_left, pending_question};
 ghost use Rattle.cb_peer_state.specs.Laws.{IsReached, asks_for_block, but_headers, greets, is_following, is_headers, rebuilds, wishes_for};
 ghost use Rattle.cb_peer_state.specs.Receiving.{received, sends};
-ghost use Rattle.cb_peer_state.specs.Replying.{answered, news_told, wish_told, without_brought};
+ghost use Rattle.cb_peer_state.specs.Replying.{answered, news_told, txs_told, wish_told};
 ghost use Rattle.cb_peer_state.specs.Session.{step_of};
 ghost use Rattle.cb_peer_state.specs.declared.session_state.SessionState.{SessionState};
 ghost use Rattle.cb_peer_state.specs.State.{is_closed, is_ready, next_nonce, with_peer};
@@ -51,7 +50,7 @@ pub fn a_tip_is_not_told_to_its_source()
     ensures { (s : SessionState) (item : Option Item) (news : News) →
         s.marks.heard ≡ Some news.tip →
         (news_told s item news).messages
-        ≡ telling (without_brought item news.txids) ++ wish_told s news.high }
+        ≡ txs_told s item news.txids ++ wish_told s news.high }
 {}
 
 /// A peer that sent no `sendheaders` (BIP 130) is sent `headers` only as the answer to its

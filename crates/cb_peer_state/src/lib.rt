@@ -14,6 +14,8 @@ mod session_state;
 mod settings;
 mod stage;
 mod state;
+mod unknown;
+mod unknown_laws;
 
 pub use compact::CompactState;
 pub use compact_laws::{
@@ -39,3 +41,8 @@ pub use session_state::SessionState;
 pub use settings::Settings;
 pub use stage::{Stage, Subject};
 pub use state::{CloseReason, Marks, Peer, State};
+pub use unknown::is_orphan;
+pub use unknown_laws::{
+    a_block_waits_for_its_parent, a_peer_that_said_no_is_told_no_transactions,
+    headers_are_requested_once_for_what_is_unknown, what_is_requested_is_waited_for,
+};

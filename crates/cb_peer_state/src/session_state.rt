@@ -8,7 +8,7 @@ ghost use Rattle.cb_peer_state.specs.declared.stage.Stage.TheVariants as stages;
 ghost use Rattle.cb_peer_state.specs.Outcomes.{Makes, is_light_stage};
 ghost use Rattle.cb_peer_state.specs.Receiving.{Outcome, ends, falls_back, gives};
 ghost use Rattle.cb_peer_state.specs.Replying.{asks_news, resuming};
-ghost use Rattle.cb_peer_state.specs.State.{bare, next_nonce, next_ping, over, remembers, with_fallen, with_lacking, with_made, with_probe};
+ghost use Rattle.cb_peer_state.specs.State.{bare, next_nonce, next_ping, over, remembers, with_fallen, with_lacking, with_made, with_probe, with_unknown};
 
 use crate::compact::CompactState;
 use crate::pending::Pending;
@@ -27,6 +27,7 @@ use std::alloc::Global;
 /// What is known of a peer that has sent nothing.
 const STRANGER: Peer = Peer {
     version: 0,
+    relays: true,
     by_headers: false,
     capable: false,
     wants_high: false,
@@ -55,6 +56,8 @@ pub struct SessionState {
     /// The header behind which blocks had no room among the wanted ones. Headers are requested from
     /// it once nothing is wanted.
     pub resume_from: Option<Hash256>,
+    /// Whether headers were requested because something was unknown, and weren't answered yet.
+    pub unknown: bool,
     /// What it keeps for compact blocks (BIP 152).
     pub compact: CompactState,
     /// How many times it sent `ping`, modulo 2^64.
@@ -75,6 +78,7 @@ impl SessionState {
             marks: UNMARKED,
             fetch: Fetch::new(alloc),
             resume_from: None,
+            unknown: false,
             compact: CompactState::new(),
             probes: 0,
             pending: None,
@@ -227,11 +231,12 @@ impl SessionState {
         self.resume_from.is_some()
     }
 
-    /// A `ping` with the session's next nonce (BIP 31), which is counted.
+    /// A `ping` with the session's next nonce (BIP 31), which is counted. A request for what is
+    /// unknown counts no more, so another may be sent.
     ///
     /// Fails only with `Fault::Memory`. The session is then unchanged.
     pub fn ping(&mut self, alloc: Global) -> Result<Vec<Outgoing>, Fault>
-        ensures session { OnOk result (self.new ≡ with_probe self.old) }
+        ensures session { OnOk result (self.new ≡ with_unknown false (with_probe self.old)) }
         ensures messages { IfOk result
             (λ sent. sent.items ≡ messages.Ping (next_ping self.old) ∷ []) }
         ensures memory { IsOkUnless result Memory }
@@ -240,11 +245,13 @@ impl SessionState {
         let nonce = self.settings.nonce.wrapping_add(self.probes);
         let sent = one_message(alloc, Outgoing::new(Message::Ping(nonce)))?;
         self.probes = self.probes.wrapping_add(1);
+        self.unknown = false;
         Ok(sent)
     }
 
-    /// Queues missing blocks for download, in order, as far as there is room. If some had none, the
-    /// header before them is remembered. While one is remembered, no block is queued.
+    /// Queues missing blocks for download, behind all others and in order, as far as there is room,
+    /// but for those in flight. If some had none, the header before them is remembered. While one
+    /// is remembered, the queue stays as it is.
     ///
     /// Fails only with `Fault::Memory`, and never if no block is missing.
     pub fn want(&mut self, lack: &[Hash256], before: Option<Hash256>) -> Result<(), Fault>

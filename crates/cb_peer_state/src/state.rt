@@ -109,6 +109,8 @@ impl fmt::Display for CloseReason {
 pub struct Peer {
     /// Its protocol version.
     pub version: i32,
+    /// Whether it wants transactions to be announced (BIP 37): what its `version` said.
+    pub relays: bool,
     /// Whether it wants blocks announced by their headers (BIP 130).
     pub by_headers: bool,
     /// Whether it supports compact blocks of version 1 (BIP 152).

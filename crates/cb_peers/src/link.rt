@@ -4,9 +4,10 @@ ghost use Rattle.cb_base.specs.declared.fault.Fault.TheVariants.{Memory};
 use crate::backlogs::Backlogs;
 use crate::outbox::{Outbox, WriterEnd};
 use crate::socket::Socket;
+use crate::telling::Roll;
 use cb_base::{Fault, Shared, Sink, SinkFailure};
 use cb_crew::Turn;
-use cb_service::AfterTurn;
+use cb_service::{AfterTurn, Signals};
 use cb_talk::{MessageSink, Outgoing, QueueFault, Receipt, Room, WriteEnd, WriteFault};
 use cb_work::ConnectionStatus;
 use std::alloc::Global;
@@ -189,9 +190,31 @@ impl<R: Wait + Drop> MessageSink for OutboxSink<R> {
     }
 }
 
+/// What a turn left of the tip.
+#[derive(Clone, Copy)]
+pub struct TipNews {
+    /// The tip that a session brought, as `tip_word` has it, if no block is in flight or wanted; 0
+    /// if it brought none.
+    pub brought: u64,
+    /// Whether a tick is due of a connection whose peer was told its first tip: another session may
+    /// have brought a tip meanwhile, and a peer that was told none is passed over then.
+    pub first: bool,
+}
+
+impl TipNews {
+    /// It left nothing.
+    fn nothing() -> TipNews {
+        TipNews {
+            brought: 0,
+            first: false,
+        }
+    }
+}
+
 /// The connections of each slot that aren't over, and the room of all outboxes.
 #[derive(Drop)]
 pub struct Links {
+    alloc: Global,
     slots: Vec<Mutex<Vec<Shared<Link>>>>,
     room: Shared<Mutex<Room>>,
 }
@@ -206,6 +229,7 @@ impl Links {
             all.push(Mutex::new(Vec::new(alloc)))?;
         }
         Ok(Links {
+            alloc,
             slots: all,
             room: Shared::new(alloc, Mutex::new(Room::new()))?,
         })
@@ -233,13 +257,42 @@ impl Links {
     }
 
     /// Closes each connection of this slot whose session is over, and no other: it is read no more,
-    /// and what its session sent still goes out.
-    pub fn close_ended<R: Wait>(&self, rt: &R, slot: u16) {
+    /// and what its session sent still goes out. Where `prompt` is set, takes before what a turn
+    /// left of the tip.
+    pub fn close_ended<R: Wait>(&self, rt: &R, slot: u16, prompt: bool) -> TipNews {
         let Some(links) = self.slots.get(usize::from(slot)) else {
-            return;
+            return TipNews::nothing();
         };
         let mut links = links.lock(rt);
+        let news = if prompt {
+            take_news(links.as_slice())
+        } else {
+            TipNews::nothing()
+        };
         links.retain(|link| !link.close_if_over(rt));
+        news
+    }
+
+    /// Has the peers told at once that lack this tip: a tick of each is due, those first that want
+    /// compact blocks unasked, and handlers are woken. A flag that is set stays set. Where memory
+    /// runs out they are told by the clock's tick.
+    ///
+    /// No clause can say which flags were set, since other threads take them.
+    pub fn tell_tip<R: Wait>(&self, rt: &R, signals: &Signals, tip: u64) {
+        if let Ok(roll) = self.roll(rt) {
+            let _ = roll.tick(signals, tip);
+        }
+    }
+
+    /// All connections. Fails only with `Fault::Memory`.
+    fn roll<R: Wait>(&self, rt: &R) -> Result<Roll, Fault>
+        ensures memory { IsOkUnless result Memory }
+    {
+        let mut roll = Roll::new(self.alloc);
+        for links in self.slots.as_slice() {
+            add_all(&mut roll, links.lock(rt).as_slice())?;
+        }
+        Ok(roll)
     }
 
     /// Shuts the sockets of all connections for reading.
@@ -260,6 +313,32 @@ impl Links {
             times = wait_for_all(rt, links.lock(rt).as_slice(), times);
         }
     }
+}
+
+/// Adds these connections to others. Fails only with `Fault::Memory`.
+fn add_all(roll: &mut Roll, links: &[Shared<Link>]) -> Result<(), Fault>
+    ensures memory { IsOkUnless result Memory }
+{
+    for link in links {
+        roll.add(&link.status)?;
+    }
+    Ok(())
+}
+
+/// Takes what these connections left of the tip. A tick of each is due whose peer was told its
+/// first tip.
+fn take_news(links: &[Shared<Link>]) -> TipNews {
+    let mut news = TipNews::nothing();
+    for link in links {
+        if link.status.take_first() && link.status.add_tick() {
+            news.first = true;
+        }
+        let brought = link.status.take_brought();
+        if brought != 0 {
+            news.brought = brought;
+        }
+    }
+    news
 }
 
 /// Shuts the sockets of these connections for reading.
@@ -290,14 +369,31 @@ fn wait_for_all<R: Wait>(rt: &R, links: &[Shared<Link>], times: u32) -> u32 {
     left
 }
 
-/// After each turn of a handler: counts what it took, and closes the slot's connections whose
-/// sessions are over. So a reader that waits for bytes of such a connection wakes.
+/// After each turn of a handler: counts what it took, has the other peers told of a tip that the
+/// slot's session brought, and closes the slot's connections whose sessions are over. So a reader
+/// that waits for bytes of such a connection wakes.
 #[derive(Clone, Drop)]
 pub struct CloseEnded {
     /// Where it is counted what was taken.
     pub backlogs: Shared<Backlogs>,
     /// The connections.
     pub links: Shared<Links>,
+    /// By which handlers are woken.
+    pub signals: Shared<Signals>,
+    /// Whether peers are told of a new tip at once.
+    pub prompt: bool,
+}
+
+impl CloseEnded {
+    /// Has told at once what a turn left of the tip.
+    fn tell<R: Wait>(&self, rt: &R, news: TipNews) {
+        if news.first {
+            self.signals.ring();
+        }
+        if news.brought != 0 {
+            self.links.tell_tip(rt, &self.signals, news.brought);
+        }
+    }
 }
 
 impl AfterTurn for CloseEnded {
@@ -305,7 +401,8 @@ impl AfterTurn for CloseEnded {
         self.backlogs.count(turn);
         match turn {
             Turn::Served(slot, _, _) | Turn::Idle(slot) | Turn::Shut(slot) => {
-                self.links.close_ended(rt, slot);
+                let news = self.links.close_ended(rt, slot, self.prompt);
+                self.tell(rt, news);
             }
             Turn::NoDesk | Turn::Spent => {}
         }

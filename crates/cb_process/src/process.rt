@@ -301,5 +301,6 @@ fn settings_of<R: RandomSource + Clock>(
         inbound,
         outbound: limits.outbound.clamp(1, MOST_SLOTS - inbound),
         handlers: handlers.clamp(1, 16),
+        prompt: true,
     })
 }

@@ -188,6 +188,7 @@ fn slots_of<W: Work<Item = Input>>(
 }
 
 /// Starts a thread for each handler. If one can't be started, waits until those return that were.
+/// Where `prompt` is set, they have peers told of a new tip at once.
 pub fn start_handlers<
     W: Work<Item = Input> + Send + 'static,
     R: Threads + Wait + Copy + Send + Drop + 'static,
@@ -196,6 +197,7 @@ pub fn start_handlers<
     alloc: Global,
     common: &Common<W>,
     links: &Shared<Links>,
+    prompt: bool,
     handlers: Vec<Handler<W>>,
 ) -> Result<Vec<Handling<W>>, NodeFault>
     requires { AreHandlersOf common.now.crew handlers.items }
@@ -207,6 +209,8 @@ pub fn start_handlers<
         hook: CloseEnded {
             backlogs: common.backlogs.clone()?,
             links: links.clone()?,
+            signals: common.signals.clone()?,
+            prompt,
         },
     };
     let (crew, signals) = (&common.crew, &common.signals);

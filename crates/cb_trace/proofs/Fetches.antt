@@ -1,14 +1,14 @@
 -- What is fetched and rebuilt, and what keeps it so: each block in flight is needed, each that is wanted lacks, and the one that is
 -- being rebuilt was missing.
-use Rattle.std.proofs.Common.{◌≡◌, Bool, true, false, cond, ◌||◌, not, List, [], ◌∷◌, ◌++◌, length, Option, Some, None, sym, subst, ◌∙◌, inl, inr}
-use Rattle.std.specs.Prelude.{◌==◌, filter, fold, nat_lt}
+use Rattle.std.proofs.Common.{◌≡◌, Bool, true, false, cond, not, List, [], ◌∷◌, ◌++◌, length, Option, Some, None, sym, subst, ◌∙◌, inl, inr}
+use Rattle.std.specs.Prelude.{filter, fold, nat_lt}
 use Rattle.std.proofs.lemmas.Bool.{cases_Bool, or_cases, or_left, or_right}
 use Rattle.std.proofs.lemmas.List.Folds.{list_any-append}
 use Rattle.cb_base.specs.declared.hash.Hash256.{Hash256}
 use Rattle.cb_chain.specs.Entries.{block_hash, same}
 use Rattle.cb_chain.proofs.BlockIndexes.{same-true}
 use Rattle.cb_compact.specs.Slots.{Unfilled}
-use Rattle.cb_fetch.specs.Fetching.{FetchState, fallen_back, has, idle, is_fetched, landed, taking_on, wanting, wanting_all, with_flight, with_wanted}
+use Rattle.cb_fetch.specs.Fetching.{FetchState, fallen_back, has, idle, is_fetched, landed, taking_on, wanting, wanting_all, with_flight, with_wanted, keeps_place, without}
 use Rattle.cb_payload.specs.declared.inventory.Inventory.{Inventory}
 use Rattle.cb_payload.specs.declared.inventory.Inventory.TheVariants as entry
 use Rattle.cb_peer_state.specs.Receiving.{given_up, gives_up}
@@ -83,7 +83,7 @@ wanted_fetches t fetch partial hash each f =
     by_test (λ (x : FetchState). Fetches t x partial) (nat_lt (length fetch.wanted) 2000) (record { flight = fetch.flight; wanted = fetch.wanted ++ hash ∷ [] }) fetch
     (λ _. record { flight = f.flight; wanted = both_each t.lacks fetch.wanted (hash ∷ []) f.wanted each; rebuilt = f.rebuilt }) (λ _. f)
 
-wanting_fetches : (t : Tests) (fetch : FetchState) (partial : Option Unfilled) (hash : Hash256) → Each t.lacks (hash ∷ []) → Fetches t fetch partial → Fetches t (wanting fetch hash) partial
+pub wanting_fetches : (t : Tests) (fetch : FetchState) (partial : Option Unfilled) (hash : Hash256) → Each t.lacks (hash ∷ []) → Fetches t fetch partial → Fetches t (wanting fetch hash) partial
 wanting_fetches t fetch partial hash each f =
     by_test (λ (x : FetchState). Fetches t x partial) (is_fetched fetch hash) fetch (with_wanted fetch hash) (λ _. f) (λ _. wanted_fetches t fetch partial hash each f)
 
@@ -94,10 +94,14 @@ taking_fetches t fetch partial hash need lack f =
     by_test (λ (x : FetchState). Fetches t x partial) (nat_lt (length fetch.flight) 16) (with_flight fetch hash) (with_wanted fetch hash) (λ _. flight_fetches t fetch partial hash need f)
     (λ _. wanted_fetches t fetch partial hash lack f))
 
+each_wanted : (t : Tests) (fetch : FetchState) (partial : Option Unfilled) (hashes : List Hash256) → Each t.lacks hashes → Fetches t fetch partial → Fetches t (fold wanting fetch hashes) partial
+each_wanted t fetch partial [] each f = f
+each_wanted t fetch partial (hash ∷ hashes) each f =
+    each_wanted t (wanting fetch hash) partial hashes (rest_each t.lacks hash hashes each) (wanting_fetches t fetch partial hash (first_each t.lacks hash hashes each) f)
+
 pub all_wanted : (t : Tests) (fetch : FetchState) (partial : Option Unfilled) (hashes : List Hash256) → Each t.lacks hashes → Fetches t fetch partial → Fetches t (wanting_all fetch hashes) partial
-all_wanted t fetch partial [] each f = f
-all_wanted t fetch partial (hash ∷ hashes) each f =
-    all_wanted t (wanting fetch hash) partial hashes (rest_each t.lacks hash hashes each) (wanting_fetches t fetch partial hash (first_each t.lacks hash hashes each) f)
+all_wanted t fetch partial hashes each f =
+    each_wanted t (without fetch hashes) partial hashes each (record { flight = f.flight; wanted = filtered_each t.lacks (keeps_place fetch hashes) fetch.wanted f.wanted; rebuilt = f.rebuilt })
 
 pub all_taken : (t : Tests) (fetch : FetchState) (partial : Option Unfilled) (hashes : List Hash256) → Each t.needed hashes → Each t.lacks hashes → Fetches t fetch partial → Fetches t (fold taking_on fetch hashes) partial
 all_taken t fetch partial [] need lack f = f

@@ -1,5 +1,5 @@
 -- What a badge has counted, one list of replies behind another.
-use Rattle.std.proofs.Common.{◌≡◌, ◌∙◌, ◌+◌, List, [], ◌++◌, length, refl, arith}
+use Rattle.std.proofs.Common.{◌∙◌, List, [], ◌++◌, refl, arith}
 use Rattle.std.proofs.lemmas.List.{length-append}
 use Rattle.cb_hall.specs.Badge.{BadgeState}
 use Rattle.cb_hall.specs.Histories.{Asks, Reply}

@@ -1,4 +1,5 @@
 -- How far a session is after a message or an answer, what it knows of its peer then, and whether it sent `sendheaders`.
+use Rattle.cb_peer_state.proofs.Behind.{orphaned_cases}
 use Rattle.std.proofs.Common.{◌≡◌, Bool, true, false, cond, List, [], ◌∷◌, ◌++◌, Option, Some, None, refl, sym, ◌∙◌, inl, inr}
 use Rattle.std.specs.Prelude.{◌==◌, Result, Ok, Err, filter_map, int_lt, pos}
 use Rattle.std.specs.List.{list_any}
@@ -48,13 +49,13 @@ use Rattle.cb_peer_state.specs.declared.state.State.{State}
 use Rattle.cb_peer_state.specs.declared.state.State.TheVariants.{Start, Greeted, Ready, Closed}
 use Rattle.cb_peer_state.specs.Questions.{is_nil, short_in, told_of}
 use Rattle.cb_peer_state.specs.Receiving.{Outcome, asks, brought, by_compact, by_headers, by_phase, completed_by, ended, ends, falls_back, filled_by, given_up, heard_of, in_greeted, in_ready, in_start, introduced, processed, received, short_heard, txs_heard}
-use Rattle.cb_peer_state.specs.Replying.{answered, before_first, before_parent, excerpt_answered, given_told, heads_by, heads_for, heads_told, is_block, is_workless, more_headers, need_told, news_told, paired, pairs_told, rebuilt_by, replied, resumed, served_told, short_told, taken_told, tx_request, wanted_told}
+use Rattle.cb_peer_state.specs.Replying.{answered, before_first, excerpt_answered, given_told, heads_by, heads_for, heads_told, is_block, is_workless, more_headers, need_told, news_told, paired, pairs_told, rebuilt_by, replied, resumed, served_told, short_told, taken_told, tx_request, wanted_told, header_in, is_orphan, orphaned, search, seeks}
 use Rattle.cb_peer_state.specs.declared.session_state.SessionState.{SessionState}
-use Rattle.cb_peer_state.specs.State.{dropping, is_partial, landing, next_nonce, stranger, unless_remembered, with_fallen, with_fetch, with_lacking, with_made, with_partial}
+use Rattle.cb_peer_state.specs.State.{dropping, is_partial, landing, next_nonce, stranger, unless_remembered, with_fallen, with_fetch, with_lacking, with_made, with_partial, seeking, with_child, with_unknown}
 use Rattle.cb_peer_state.proofs.Cases.{by_test, ends_cases}
 use Rattle.cb_peer_state.proofs.Resuming.{resuming_cases}
 use Rattle.cb_trace.specs.Whole.{is_send_headers, is_wish}
-use Rattle.cb_trace.proofs.Quiet.{again_none, IsRare, NoneOf, excerpt_none, greeting_none, more_none, news_none, none_of_both, parent_none, served_none, unless_none}
+use Rattle.cb_trace.proofs.Quiet.{again_none, IsRare, NoneOf, excerpt_none, greeting_none, more_none, news_none, none_of_both, served_none, unless_none, search_none}
 
 -- by this item the peer asks to be told of blocks by their headers
 abbrev pub item_wishes : Option Item → Bool
@@ -104,9 +105,8 @@ asking_silent : (entries : List Inventory) → Silent (asking_for entries)
 asking_silent [] = refl
 asking_silent (first ∷ others) = refl
 
-request_silent : (b : Bool) (locator : List Hash256) → Silent (cond b (asking_headers locator ∷ []) [])
-request_silent true locator = refl
-request_silent false locator = refl
+search_silent : (found : Bool) (s : SessionState) (locator : List Hash256) → Silent (search found s locator)
+search_silent found s locator = search_none is_send_headers found s locator rare
 
 whole_silent : (b : Bool) (hash : Hash256) → Silent (cond b (asking_block hash ∷ []) [])
 whole_silent true hash = refl
@@ -189,7 +189,7 @@ ready_hears : (s : SessionState) (message : Message) → Hears s.state s.peer (S
 unfolding in_ready
 ready_hears s messages.SendHeaders = ends_hears s.state s.peer (Some (Good messages.SendHeaders)) (by_headers s) [] refl refl (λ e. absurd cc) refl
 ready_hears s (messages.SendCmpct relay) = ends_hears s.state s.peer (Some (Good (messages.SendCmpct relay))) (by_compact relay s) [] (compact_state relay s) (compact_version relay s) (λ _. compact_by relay s) refl
-ready_hears s (messages.Headers []) = quiet_end (Some (Good (messages.Headers []))) s [] refl
+ready_hears s (messages.Headers []) = quiet_end (Some (Good (messages.Headers []))) (with_unknown false s) [] refl
 ready_hears s (messages.Headers (first ∷ others)) = keeps refl refl (λ _. refl) refl
 ready_hears s (messages.Inv entries) =
     elim (cases_Bool (is_nil (told_of entries))) [
@@ -226,23 +226,30 @@ processed_hears s (Some (Bad command fault)) = stops reasons.BadMessage refl ref
 
 -- ---- answers
 
+seeks_hears : (item : Option Item) (s : SessionState) (locator : List Hash256) → Hears s.state s.peer item (seeks s locator)
+seeks_hears item s locator = quiet_end item (seeking true s) (search true s locator) (search_silent true s locator)
+
+orphaned_hears : (item : Option Item) (s : SessionState) (header : Option Header) (locator : List Hash256) → Hears s.state s.peer item (orphaned s header locator)
+orphaned_hears item s header locator =
+    orphaned_cases (Hears s.state s.peer item) s header locator (seeks_hears item s locator) (λ of _ _. quiet_end item (with_child (block_hash of) of.prev s) [] refl)
+
 heads_by_hears : (item : Option Item) (s : SessionState) (refused : Option Fault) (locator : List Hash256) → Hears s.state s.peer item (heads_by s item refused locator)
 heads_by_hears item s (Some faults.BadWork) locator = stops reasons.BadBlock refl refl refl refl
-heads_by_hears item s (Some faults.NoParent) locator = unless_end item s (asking_headers locator ∷ []) refl
-heads_by_hears item s (Some other) locator = quiet_end item s [] refl
-heads_by_hears item s None locator = unless_end item s (more_headers item) (more_none is_send_headers item rare)
-
-parent_silent : (refused : Option Fault) (locator : List Hash256) → Silent (before_parent refused locator)
-parent_silent refused locator = parent_none is_send_headers refused locator rare
+heads_by_hears item s (Some faults.NoParent) locator = seeks_hears item s locator
+heads_by_hears item s (Some other) locator = quiet_end item (with_unknown false s) [] refl
+heads_by_hears item s None locator =
+    quiet_end item (with_unknown false s) (unless_remembered s (more_headers item)) (unless_none is_send_headers s (more_headers item) (more_none is_send_headers item rare))
 
 short_told_hears : (item : Option Item) (s : SessionState) (hash : Hash256) (heads : Heads) → Hears s.state s.peer item (short_told s hash heads)
 unfolding short_told
 short_told_hears item s hash heads =
-    let sent = unless_remembered s (before_parent heads.refused heads.locator) in
-    let silent = unless_none is_send_headers s (before_parent heads.refused heads.locator) (parent_silent heads.refused heads.locator) in
-    let there : Outcome = ends (landing hash s) sent in
-    by_test (Hears s.state s.peer item) (is_workless heads.refused) (ended reasons.BadBlock s) (cond (is_nil heads.lack) there (asks s sent Match)) (λ _. stops reasons.BadBlock refl refl refl refl)
-    (λ _. by_test (Hears s.state s.peer item) (is_nil heads.lack) there (asks s sent Match) (λ _. quiet_end item (landing hash s) sent silent) (λ _. keeps refl refl (λ _. refl) silent))
+    let found = is_orphan heads.refused in
+    let sent = search found s heads.locator in
+    let silent = search_silent found s heads.locator in
+    let t = seeking found s in
+    let there : Outcome = ends (landing hash t) sent in
+    by_test (Hears s.state s.peer item) (is_workless heads.refused) (ended reasons.BadBlock s) (cond (is_nil heads.lack) there (asks t sent Match)) (λ _. stops reasons.BadBlock refl refl refl refl)
+    (λ _. by_test (Hears s.state s.peer item) (is_nil heads.lack) there (asks t sent Match) (λ _. quiet_end item (landing hash t) sent silent) (λ _. keeps refl refl (λ _. refl) silent))
 
 heads_for_hears : (item : Option Item) (s : SessionState) (short : Option HeaderAndShortIds) (heads : Heads) → Hears s.state s.peer item (heads_for s item short heads)
 heads_for_hears item s None heads = heads_by_hears item (with_lacking heads.lack (before_first item) s) heads.refused heads.locator
@@ -267,16 +274,17 @@ pairs_hears : (item : Option Item) (s : SessionState) (pairs : List Pair) → He
 unfolding pairs_told
 pairs_hears item s pairs = paired_hears item s (short_in item) pairs
 
-taken_hears : (item : Option Item) (s : SessionState) (refused : Option Fault) (locator : List Hash256) → Hears s.state s.peer item (taken_told s refused locator)
+taken_hears : (item : Option Item) (s : SessionState) (header : Option Header) (refused : Option Fault) (locator : List Hash256) → Hears s.state s.peer item (taken_told s header refused locator)
 unfolding taken_told
-taken_hears item s None locator = quiet_end item s [] refl
-taken_hears item s (Some faults.Known) locator = quiet_end item s [] refl
-taken_hears item s (Some faults.NoParent) locator = unless_end item s (asking_headers locator ∷ []) refl
-taken_hears item s (Some other) locator = stops reasons.BadBlock refl refl refl refl
+taken_hears item s header None locator = quiet_end item s [] refl
+taken_hears item s header (Some faults.Known) locator = quiet_end item s [] refl
+taken_hears item s header (Some faults.NoParent) locator = orphaned_hears item s header locator
+taken_hears item s header (Some other) locator = stops reasons.BadBlock refl refl refl refl
 
-given_hears : (item : Option Item) (s : SessionState) (refused : Option Fault) (locator : List Hash256) → Hears s.state s.peer item (given_told s refused locator)
+given_hears : (item : Option Item) (s : SessionState) (header : Header) (refused : Option Fault) (locator : List Hash256) → Hears s.state s.peer item (given_told s header refused locator)
 unfolding given_told
-given_hears item s refused locator = unless_end item s (before_parent refused locator) (parent_silent refused locator)
+given_hears item s header refused locator =
+    by_test (Hears s.state s.peer item) (is_orphan refused) (orphaned s (Some header) locator) (ends s []) (λ _. orphaned_hears item s (Some header) locator) (λ _. quiet_end item s [] refl)
 
 excerpt_hears : (item : Option Item) (s : SessionState) (excerpt : Excerpt) → Hears s.state s.peer item (excerpt_answered s excerpt)
 unfolding excerpt_answered
@@ -286,10 +294,10 @@ excerpt_hears item s other = quiet_end item s (excerpt_told other) (excerpt_none
 need_hears : (item : Option Item) (s : SessionState) (need : Need) → Hears s.state s.peer item (need_told s need)
 unfolding need_told
 need_hears item s need =
-    let behind : List Message = cond (list_any is_block need.entries) (asking_headers need.locator ∷ []) [] in
-    quiet_end item s (asking_for (filter_map tx_request need.entries) ++ unless_remembered s behind)
-    (none_of_both is_send_headers (asking_for (filter_map tx_request need.entries)) (unless_remembered s behind) (asking_silent (filter_map tx_request need.entries))
-    (unless_none is_send_headers s behind (request_silent (list_any is_block need.entries) need.locator)))
+    let found = list_any is_block need.entries in
+    let behind = search found s need.locator in
+    quiet_end item (seeking found s) (asking_for (filter_map tx_request need.entries) ++ behind)
+    (none_of_both is_send_headers (asking_for (filter_map tx_request need.entries)) behind (asking_silent (filter_map tx_request need.entries)) (search_silent found s need.locator))
 
 -- an answer, to whatever it is one
 replied_hears : (s : SessionState) (item : Option Item) (stage : Stage) (answer : Answer) → Hears s.state s.peer item (replied s item stage answer)
@@ -300,12 +308,12 @@ replied_hears s item (About subject) (answers.Heads heads) = heads_hears item s 
 replied_hears s item (About subject) (answers.Locator locator) = unless_end item s (asking_headers locator ∷ []) refl
 replied_hears s item (About subject) (answers.Need need) = need_hears item s need
 replied_hears s item (About subject) (answers.TxTaken refused) = quiet_end item s [] refl
-replied_hears s item (About subject) (answers.Taken taken) = taken_hears item s taken.refused taken.locator
+replied_hears s item (About subject) (answers.Taken taken) = taken_hears item s (header_in item) taken.refused taken.locator
 replied_hears s item (About subject) (answers.Served pieces) = quiet_end item (with_made (shorts pieces) s) (served (next_nonce s) pieces) (served_none is_send_headers (next_nonce s) pieces rare (λ _. refl))
 replied_hears s item (About subject) (answers.Following headers) = quiet_end item s (messages.Headers headers ∷ []) refl
 replied_hears s item (About subject) (answers.Excerpt excerpt) = excerpt_hears item s excerpt
 replied_hears s item Match (answers.Pairs pairs) = pairs_hears item s pairs
-replied_hears s item (Give block) (answers.Taken taken) = given_hears item s taken.refused taken.locator
+replied_hears s item (Give block) (answers.Taken taken) = given_hears item s block.header taken.refused taken.locator
 replied_hears s item Wanted (answers.Need need) = keeps refl refl (λ _. refl) (asking_silent (requests_of _ (taken_on (blocks_in need.entries)).flight))
 replied_hears s item Fresh (answers.News news) = keeps refl refl (λ _. refl) (news_none is_send_headers s item news rare (λ _. refl) (λ _. refl))
 replied_hears s item stage other = keeps refl refl (λ _. refl) refl

@@ -35,7 +35,7 @@ use Rattle.cb_state.specs.declared.serving.Piece.{Piece}
 use Rattle.cb_state.specs.declared.serving_places.Excerpt.{Excerpt}
 use Rattle.cb_state.specs.declared.serving_places.Excerpt.TheVariants as excerpts
 use Rattle.cb_state.specs.declared.wanting.Need.{Need}
-use Rattle.cb_talk.specs.Announcing.{announcing, telling}
+use Rattle.cb_talk.specs.Announcing.{announcing}
 use Rattle.cb_talk.specs.Greeting.{wish, wishes}
 use Rattle.cb_talk.specs.Inventory.{asking_block, asking_for, asking_headers, asking_txs}
 use Rattle.cb_talk.specs.Serving.{excerpt_told, nonce_in, nonces_from, nonces_in, served, shorts}
@@ -53,15 +53,15 @@ use Rattle.cb_peer_state.specs.declared.state.State.{State}
 use Rattle.cb_peer_state.specs.declared.state.State.TheVariants.{Start, Greeted, Ready, Closed}
 use Rattle.cb_peer_state.specs.Questions.{is_nil, short_in, told_of}
 use Rattle.cb_peer_state.specs.Receiving.{Outcome, asks, brought, by_compact, by_headers, by_phase, completed_by, ended, ends, falls_back, filled_by, given_up, heard_of, sends, in_greeted, in_ready, in_start, introduced, processed, received, short_heard, txs_heard}
-use Rattle.cb_peer_state.specs.Replying.{answered, before_first, before_parent, differ, excerpt_answered, given_told, heads_by, heads_for, heads_told, is_block, is_untold, is_workless, more_headers, need_told, news_told, paired, pairs_told, rebuilt_by, replied, served_told, short_told, taken_told, tip_by, tip_made, tip_told, count_of, tx_request, wanted_told, wish_told, without_brought}
+use Rattle.cb_peer_state.specs.Replying.{answered, before_first, differ, excerpt_answered, given_told, heads_by, heads_for, heads_told, is_block, is_untold, is_workless, more_headers, need_told, news_told, paired, pairs_told, rebuilt_by, replied, served_told, short_told, taken_told, tip_by, tip_made, tip_told, count_of, tx_request, wanted_told, wish_told, header_in, is_orphan, orphaned, search, txs_told}
 use Rattle.cb_peer_state.specs.declared.session_state.SessionState.{SessionState}
-use Rattle.cb_peer_state.specs.State.{dropping, is_closed, is_partial, is_ready, landing, next_nonce, unless_remembered, with_fallen, with_fetch, with_lacking, with_made, with_partial, with_resume_from}
+use Rattle.cb_peer_state.specs.State.{dropping, is_closed, is_partial, is_ready, landing, next_nonce, unless_remembered, with_fallen, with_fetch, with_lacking, with_made, with_partial, with_resume_from, seeking, with_child, with_unknown}
 use Rattle.cb_peer_state.proofs.Cases.{by_test, ends_cases}
 use Rattle.cb_peer_state.proofs.Resuming.{resuming_cases}
-use Rattle.cb_peer_state.proofs.Behind.{found_more, unless_all}
+use Rattle.cb_peer_state.proofs.Behind.{found_more, unless_all, orphaned_cases, search_all}
 use Rattle.cb_peer_state.proofs.CompactSteps.{ready_open}
 use Rattle.cb_trace.specs.Whole.{high_in, highs_in}
-use Rattle.cb_trace.proofs.Quiet.{again_none, IsRare, NoneOf, announcing_none, excerpt_none, greeting_none, more_none, none_of_both, parent_none, served_none, telling_none, tip_none}
+use Rattle.cb_trace.proofs.Quiet.{again_none, IsRare, NoneOf, announcing_none, excerpt_none, greeting_none, more_none, none_of_both, served_none, tip_none, txs_none}
 
 -- ---- compact blocks and wishes among messages
 
@@ -134,18 +134,18 @@ request_plain false message plain = silent
 unless_plain : (s : SessionState) (sent : List Message) → IsPlain sent → IsPlain (unless_remembered s sent)
 unless_plain s sent plain = unless_all IsPlain s sent silent plain
 
-need_plain : (s : SessionState) (need : Need) → IsPlain (asking_for (filter_map tx_request need.entries) ++ unless_remembered s (cond (list_any is_block need.entries) (asking_headers need.locator ∷ []) []))
+search_plain : (found : Bool) (s : SessionState) (locator : List Hash256) → IsPlain (search found s locator)
+search_plain found s locator = search_all IsPlain found s locator silent (record { shorts = refl; relays = refl })
+
+need_plain : (s : SessionState) (need : Need) → IsPlain (asking_for (filter_map tx_request need.entries) ++ search (list_any is_block need.entries) s need.locator)
 need_plain s need =
-    let behind : List Message = unless_remembered s (cond (list_any is_block need.entries) (asking_headers need.locator ∷ []) []) in
+    let behind : List Message = search (list_any is_block need.entries) s need.locator in
     let first = asking_plain (filter_map tx_request need.entries) in
-    let then : IsPlain behind = unless_plain s (cond (list_any is_block need.entries) (asking_headers need.locator ∷ []) []) (request_plain (list_any is_block need.entries) (asking_headers need.locator) (record { shorts = refl; relays = refl })) in
+    let then : IsPlain behind = search_plain (list_any is_block need.entries) s need.locator in
     record {
       shorts = none_of_both is_short (asking_for (filter_map tx_request need.entries)) behind first.shorts then.shorts;
       relays = none_of_both is_relay (asking_for (filter_map tx_request need.entries)) behind first.relays then.relays;
     }
-
-parent_plain : (refused : Option Fault) (locator : List Hash256) → IsPlain (before_parent refused locator)
-parent_plain refused locator = record { shorts = parent_none is_short refused locator rare_short; relays = parent_none is_relay refused locator rare_relay }
 
 -- ---- what an outcome comes to
 
@@ -299,7 +299,7 @@ ready_plays : (s : SessionState) (message : Message) → RepliesAt s (in_ready s
 unfolding in_ready
 ready_plays s messages.SendHeaders = fetch_end s (by_headers s) [] silent refl refl refl
 ready_plays s (messages.SendCmpct relay) = ends_plays s (by_compact relay s) [] (compact_state relay s) (compact_plays relay s)
-ready_plays s (messages.Headers []) = quiet_end s [] silent
+ready_plays s (messages.Headers []) = fetch_end s (with_unknown false s) [] silent refl refl refl
 ready_plays s (messages.Headers (first ∷ others)) = quiet_next s _ (Some (About subjects.Headers)) refl refl refl refl
 ready_plays s (messages.Inv entries) =
     by_test (RepliesAt s) (is_nil (told_of entries)) (ends s []) (asks s [] (About subjects.Inventory)) (λ _. quiet_end s [] silent) (λ _. quiet_next s s (Some (About subjects.Inventory)) refl refl refl refl)
@@ -338,19 +338,21 @@ headers_asked locator = record { shorts = refl; relays = refl }
 
 heads_by_plays : (s new : SessionState) (item : Option Item) (refused : Option Fault) (locator : List Hash256) → new.compact.made ≡ s.compact.made → new.compact.asked_high ≡ s.compact.asked_high → new.state ≡ s.state → RepliesAt s (heads_by new item refused locator)
 heads_by_plays s new item (Some faults.BadWork) locator made asked state = over_plays s new reasons.BadBlock
-heads_by_plays s new item (Some faults.NoParent) locator made asked state = fetch_end s new (unless_remembered new (asking_headers locator ∷ [])) (unless_plain new (asking_headers locator ∷ []) (headers_asked locator)) made asked state
-heads_by_plays s new item (Some other) locator made asked state = fetch_end s new [] silent made asked state
+heads_by_plays s new item (Some faults.NoParent) locator made asked state = fetch_end s (seeking true new) (search true new locator) (search_plain true new locator) made asked state
+heads_by_plays s new item (Some other) locator made asked state = fetch_end s (with_unknown false new) [] silent made asked state
 heads_by_plays s new item None locator made asked state =
-    fetch_end s new (unless_remembered new (more_headers item)) (unless_plain new (more_headers item) (record { shorts = more_none is_short item rare_short; relays = more_none is_relay item rare_relay })) made asked state
+    fetch_end s (with_unknown false new) (unless_remembered new (more_headers item)) (unless_plain new (more_headers item) (record { shorts = more_none is_short item rare_short; relays = more_none is_relay item rare_relay })) made asked state
 
 short_told_plays : (s : SessionState) (hash : Hash256) (heads : Heads) → RepliesAt s (short_told s hash heads)
 unfolding short_told
 short_told_plays s hash heads =
-    let sent = unless_remembered s (before_parent heads.refused heads.locator) in
-    let is = unless_plain s (before_parent heads.refused heads.locator) (parent_plain heads.refused heads.locator) in
-    let there : Outcome = ends (landing hash s) sent in
-    by_test (RepliesAt s) (is_workless heads.refused) (ended reasons.BadBlock s) (cond (is_nil heads.lack) there (asks s sent Match)) (λ _. over_plays s s reasons.BadBlock)
-    (λ _. by_test (RepliesAt s) (is_nil heads.lack) there (asks s sent Match) (λ _. fetch_end s (landing hash s) sent is refl refl refl) (λ _. next_plays s (asks s sent Match) refl (same_plays s sent is)))
+    let found = is_orphan heads.refused in
+    let sent = search found s heads.locator in
+    let is = search_plain found s heads.locator in
+    let t = seeking found s in
+    let there : Outcome = ends (landing hash t) sent in
+    by_test (RepliesAt s) (is_workless heads.refused) (ended reasons.BadBlock s) (cond (is_nil heads.lack) there (asks t sent Match)) (λ _. over_plays s s reasons.BadBlock)
+    (λ _. by_test (RepliesAt s) (is_nil heads.lack) there (asks t sent Match) (λ _. fetch_end s (landing hash t) sent is refl refl refl) (λ _. next_plays s (asks t sent Match) refl (plain is refl refl (λ ready. ready))))
 
 heads_for_plays : (s : SessionState) (item : Option Item) (short : Option HeaderAndShortIds) (heads : Heads) → RepliesAt s (heads_for s item short heads)
 heads_for_plays s item None heads = heads_by_plays s (with_lacking heads.lack (before_first item) s) item heads.refused heads.locator refl refl refl
@@ -375,16 +377,22 @@ pairs_plays : (s : SessionState) (item : Option Item) (pairs : List Pair) → Re
 unfolding pairs_told
 pairs_plays s item pairs = paired_plays s (short_in item) pairs
 
-taken_plays : (s : SessionState) (refused : Option Fault) (locator : List Hash256) → RepliesAt s (taken_told s refused locator)
-unfolding taken_told
-taken_plays s None locator = quiet_end s [] silent
-taken_plays s (Some faults.Known) locator = quiet_end s [] silent
-taken_plays s (Some faults.NoParent) locator = quiet_end s (unless_remembered s (asking_headers locator ∷ [])) (unless_plain s (asking_headers locator ∷ []) (headers_asked locator))
-taken_plays s (Some other) locator = over_plays s s reasons.BadBlock
+orphaned_plays : (s : SessionState) (header : Option Header) (locator : List Hash256) → RepliesAt s (orphaned s header locator)
+orphaned_plays s header locator =
+    orphaned_cases (RepliesAt s) s header locator (fetch_end s (seeking true s) (search true s locator) (search_plain true s locator) refl refl refl)
+    (λ of _ _. fetch_end s (with_child (block_hash of) of.prev s) [] silent refl refl refl)
 
-given_plays : (s : SessionState) (refused : Option Fault) (locator : List Hash256) → RepliesAt s (given_told s refused locator)
+taken_plays : (s : SessionState) (header : Option Header) (refused : Option Fault) (locator : List Hash256) → RepliesAt s (taken_told s header refused locator)
+unfolding taken_told
+taken_plays s header None locator = quiet_end s [] silent
+taken_plays s header (Some faults.Known) locator = quiet_end s [] silent
+taken_plays s header (Some faults.NoParent) locator = orphaned_plays s header locator
+taken_plays s header (Some other) locator = over_plays s s reasons.BadBlock
+
+given_plays : (s : SessionState) (header : Header) (refused : Option Fault) (locator : List Hash256) → RepliesAt s (given_told s header refused locator)
 unfolding given_told
-given_plays s refused locator = quiet_end s (unless_remembered s (before_parent refused locator)) (unless_plain s (before_parent refused locator) (parent_plain refused locator))
+given_plays s header refused locator =
+    by_test (RepliesAt s) (is_orphan refused) (orphaned s (Some header) locator) (ends s []) (λ _. orphaned_plays s (Some header) locator) (λ _. quiet_end s [] silent)
 
 excerpt_plays : (s : SessionState) (excerpt : Excerpt) → RepliesAt s (excerpt_answered s excerpt)
 unfolding excerpt_answered
@@ -393,7 +401,9 @@ excerpt_plays s other = quiet_end s (excerpt_told other) (record { shorts = exce
 
 need_plays : (s : SessionState) (need : Need) → RepliesAt s (need_told s need)
 unfolding need_told
-need_plays s need = quiet_end s (asking_for (filter_map tx_request need.entries) ++ unless_remembered s (cond (list_any is_block need.entries) (asking_headers need.locator ∷ []) [])) (need_plain s need)
+need_plays s need =
+    let found = list_any is_block need.entries in
+    fetch_end s (seeking found s) (asking_for (filter_map tx_request need.entries) ++ search found s need.locator) (need_plain s need) refl refl refl
 
 -- no wish is sent
 no_turn : (high : Bool) (highs : List Bool) → highs ≡ [] → Turns high highs high
@@ -434,12 +444,12 @@ news_plays : (s : SessionState) (item : Option Item) (news : News) → is_ready 
 unfolding news_told
 news_plays s item news ready =
     let tip = tip_told s news in
-    let txs = telling (without_brought item news.txids) in
+    let txs = txs_told s item news.txids in
     let asked = wish_told s news.high in
     let nonces : nonces_in ((tip ++ txs) ++ asked) ≡ nonces_from (next_nonce s) (tip_made s news) =
     filter_map-append nonce_in (tip ++ txs) asked
     ∙ ap (λ (l : List ℕ). l ++ nonces_in asked) (filter_map-append nonce_in tip txs)
-    ∙ ap (λ (l : List ℕ). (nonces_in tip ++ l) ++ nonces_in asked) (no_nonces txs (telling_none is_short (without_brought item news.txids) rare_short))
+    ∙ ap (λ (l : List ℕ). (nonces_in tip ++ l) ++ nonces_in asked) (no_nonces txs (txs_none is_short s item news.txids rare_short))
     ∙ ap (λ (l : List ℕ). (nonces_in tip ++ []) ++ l) (wish_nonces s news.high)
     ∙ append-nil (nonces_in tip ++ [])
     ∙ append-nil (nonces_in tip)
@@ -447,7 +457,7 @@ news_plays s item news ready =
     let highs : highs_in ((tip ++ txs) ++ asked) ≡ highs_in asked =
     filter_map-append high_in (tip ++ txs) asked
     ∙ ap (λ (l : List Bool). l ++ highs_in asked)
-    (no_highs (tip ++ txs) (none_of_both is_relay tip txs (tip_none is_relay s news rare_relay (λ _. refl)) (telling_none is_relay (without_brought item news.txids) rare_relay))) in
+    (no_highs (tip ++ txs) (none_of_both is_relay tip txs (tip_none is_relay s news rare_relay (λ _. refl)) (txs_none is_relay s item news.txids rare_relay))) in
     next_plays s _ refl
     (tells (tip_made s news) nonces refl (rw highs (wish_turns s.peer.capable news.high s.compact.asked_high)) (λ early. absurd (let clash : true ≡ false = sym ready ∙ early in cc)) (λ r. r))
 
@@ -460,12 +470,12 @@ replied_plays s item (About subject) (answers.Heads heads) late = heads_plays s 
 replied_plays s item (About subject) (answers.Locator locator) late = quiet_end s (unless_remembered s (asking_headers locator ∷ [])) (unless_plain s (asking_headers locator ∷ []) (headers_asked locator))
 replied_plays s item (About subject) (answers.Need need) late = need_plays s need
 replied_plays s item (About subject) (answers.TxTaken refused) late = quiet_end s [] silent
-replied_plays s item (About subject) (answers.Taken taken) late = taken_plays s taken.refused taken.locator
+replied_plays s item (About subject) (answers.Taken taken) late = taken_plays s (header_in item) taken.refused taken.locator
 replied_plays s item (About subject) (answers.Served pieces) late = served_plays s pieces
 replied_plays s item (About subject) (answers.Following headers) late = quiet_end s (messages.Headers headers ∷ []) (record { shorts = refl; relays = refl })
 replied_plays s item (About subject) (answers.Excerpt excerpt) late = excerpt_plays s excerpt
 replied_plays s item Match (answers.Pairs pairs) late = pairs_plays s item pairs
-replied_plays s item (Give block) (answers.Taken taken) late = given_plays s taken.refused taken.locator
+replied_plays s item (Give block) (answers.Taken taken) late = given_plays s block.header taken.refused taken.locator
 replied_plays s item Wanted (answers.Need need) late =
     let ready = late refl in
     let fetch = taken_on (blocks_in need.entries) in

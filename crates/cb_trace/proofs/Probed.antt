@@ -32,7 +32,7 @@ use Rattle.cb_peer_state.specs.Replying.{answered, is_untold, tip_by, tip_told}
 use Rattle.cb_peer_state.specs.Session.{Stepped, arrives, closes, for_item, open_step, openings, pinged, stays, told}
 use Rattle.cb_peer_state.specs.State.{freed, is_closed, is_ready}
 use Rattle.cb_peer_state.proofs.Cases.{by_test}
-use Rattle.cb_peer_state.proofs.Sending.{IsCalm, IsMild, None_of, answered_none}
+use Rattle.cb_peer_state.proofs.Sending.{IsCalm, IsMild, None_of, answered_none, txs_none_by}
 use Rattle.cb_peer_state.proofs.Steps.{Comes, Fixed, answered_comes, fixed_of, goes, owed_at, stops}
 use Rattle.cb_trace.specs.declared.trace.TraceEntry.{TraceEntry}
 use Rattle.cb_trace.specs.Fold.{Account, account_of, account_step, first_account, sends}
@@ -40,7 +40,7 @@ use Rattle.cb_trace.specs.Whole.{is_heeded, is_probe, pings_in, probes_heeded}
 use Rattle.cb_trace.proofs.Counted.{made_more, next_is, small}
 use Rattle.cb_trace.proofs.Entries.{entry_settings}
 use Rattle.cb_trace.proofs.Reached.{step_cases}
-use Rattle.cb_trace.proofs.Runs.{behind, run_append, run_length}
+use Rattle.cb_trace.proofs.Runs.{run_append, run_length}
 
 -- ---- answers and items send no `ping`
 
@@ -56,7 +56,6 @@ ping_mild =
       pong = λ _. refl;
       send_headers = refl;
       send_compact = λ _. refl;
-      inv = λ _. refl;
       not_found = λ _. refl;
       get_headers = λ _. refl;
       tx = λ _. refl;
@@ -89,6 +88,7 @@ ping_calm s item stage answer =
       need = λ need. none_asked _;
       wanted = λ need _. none_asked _;
       tip = λ news. none_of_tip s news;
+      txs = λ news. txs_none_by is_ping s item news.txids (λ _. refl);
       following = λ headers _. refl;
       whole = λ _ _. refl;
     }

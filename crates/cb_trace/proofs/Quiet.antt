@@ -1,11 +1,10 @@
 -- Lists of messages, looked through by a test that few messages meet.
+use Rattle.cb_peer_state.proofs.Cases.{by_test}
 use Rattle.std.proofs.Common.{◌≡◌, ℕ, Bool, true, false, ◌&&◌, List, [], ◌∷◌, ◌++◌, Option, Some, None, refl, ◌∙◌, inl, inr}
 use Rattle.std.specs.Prelude.{◌==◌, filter_map, length, not}
 use Rattle.std.specs.List.{list_any}
 use Rattle.std.proofs.lemmas.Bool.{cases_Bool, or_from}
 use Rattle.std.proofs.lemmas.List.Folds.{list_any-append}
-use Rattle.cb_base.specs.declared.fault.Fault.{Fault}
-use Rattle.cb_base.specs.declared.fault.Fault.TheVariants as faults
 use Rattle.cb_base.specs.declared.hash.Hash256.{Hash256}
 use Rattle.cb_block.specs.declared.block.Block.{Block}
 use Rattle.cb_block.specs.declared.header.Header.{Header}
@@ -32,9 +31,9 @@ use Rattle.cb_wire.specs.declared.message.Message.{Message}
 use Rattle.cb_wire.specs.declared.message.Message.TheVariants as messages
 use Rattle.cb_peer_state.specs.declared.settings.Settings.{Settings}
 use Rattle.cb_peer_state.specs.Receiving.{greeting}
-use Rattle.cb_peer_state.specs.Replying.{before_parent, differ, is_untold, more_behind, more_headers, tip_by, tip_told, wish_told, without_brought}
+use Rattle.cb_peer_state.specs.Replying.{differ, is_untold, more_behind, more_headers, tip_by, tip_told, wish_told, without_brought, search, txs_told}
 use Rattle.cb_peer_state.specs.State.{unless_remembered}
-use Rattle.cb_peer_state.proofs.Behind.{unless_all}
+use Rattle.cb_peer_state.proofs.Behind.{unless_all, search_all}
 use Rattle.cb_peer_state.specs.declared.session_state.SessionState.{SessionState}
 
 -- none of the messages meets the test
@@ -89,9 +88,9 @@ pub more_none : (test : Message → Bool) (item : Option Item) → IsRare test �
 more_none test (Some (Good (messages.Headers headers))) m = behind_none test headers m
 more_none test item m = refl
 
-pub parent_none : (test : Message → Bool) (refused : Option Fault) (locator : List Hash256) → IsRare test → NoneOf test (before_parent refused locator)
-parent_none test (Some faults.NoParent) locator m = request_none test locator m
-parent_none test refused locator m = refl
+-- headers are requested where something is unknown
+pub search_none : (test : Message → Bool) (found : Bool) (s : SessionState) (locator : List Hash256) → IsRare test → NoneOf test (search found s locator)
+search_none test found s locator m = search_all (NoneOf test) found s locator refl (request_none test locator m)
 
 -- headers are requested unless one is remembered
 pub unless_none : (test : Message → Bool) (s : SessionState) (sent : List Message) → NoneOf test sent → NoneOf test (unless_remembered s sent)
@@ -146,7 +145,10 @@ wish_none : (test : Message → Bool) (s : SessionState) (high : Bool) → NoRel
 wish_none test s high no_relay =
     elim (cases_Bool (s.peer.capable && differ high s.compact.asked_high)) [ inl wishes ↦ rw wishes (none_of_one test (wish high) (no_relay _)) | inr quiet ↦ rw quiet refl ]
 
-pub news_none : (test : Message → Bool) (s : SessionState) (item : Option Item) (news : News) → IsRare test → NoShort test → NoRelay test → NoneOf test ((tip_told s news ++ telling (without_brought item news.txids)) ++ wish_told s news.high)
+pub txs_none : (test : Message → Bool) (s : SessionState) (item : Option Item) (txids : List Hash256) → IsRare test → NoneOf test (txs_told s item txids)
+txs_none test s item txids m = by_test (NoneOf test) s.peer.relays (telling (without_brought item txids)) [] (λ _. telling_none test (without_brought item txids) m) (λ _. refl)
+
+pub news_none : (test : Message → Bool) (s : SessionState) (item : Option Item) (news : News) → IsRare test → NoShort test → NoRelay test → NoneOf test ((tip_told s news ++ txs_told s item news.txids) ++ wish_told s news.high)
 news_none test s item news m no_short no_relay =
-    none_of_both test (tip_told s news ++ telling (without_brought item news.txids)) (wish_told s news.high)
-    (none_of_both test (tip_told s news) (telling (without_brought item news.txids)) (tip_none test s news m no_short) (telling_none test (without_brought item news.txids) m)) (wish_none test s news.high no_relay)
+    none_of_both test (tip_told s news ++ txs_told s item news.txids) (wish_told s news.high)
+    (none_of_both test (tip_told s news) (txs_told s item news.txids) (tip_none test s news m no_short) (txs_none test s item news.txids m)) (wish_none test s news.high no_relay)

@@ -1,4 +1,5 @@
 -- What a message or an answer makes of what is fetched, and which blocks are asked for then: needed ones alone.
+use Rattle.cb_state.specs.declared.accepting.Taken.{Taken}
 use Rattle.std.proofs.Common.{◌≡◌, ℕ, Bool, true, false, cond, ◌||◌, List, [], ◌∷◌, ◌++◌, Option, Some, None, refl, sym, ap, subst, ◌∙◌, inl, inr}
 use Rattle.std.specs.Prelude.{◌==◌, ◌&&◌, Result, Ok, Err, filter_map, int_lt, pos}
 use Rattle.std.specs.List.{list_any}
@@ -36,7 +37,6 @@ use Rattle.cb_state.specs.declared.serving.Piece.{Piece}
 use Rattle.cb_state.specs.declared.serving_places.Excerpt.{Excerpt}
 use Rattle.cb_state.specs.declared.serving_places.Excerpt.TheVariants as excerpts
 use Rattle.cb_state.specs.declared.wanting.Need.{Need}
-use Rattle.cb_talk.specs.Announcing.{telling}
 use Rattle.cb_talk.specs.Inventory.{asking_block, asking_for, asking_headers, asking_txs}
 use Rattle.cb_talk.specs.Greeting.{wishes}
 use Rattle.cb_talk.specs.Serving.{excerpt_told, served, shorts}
@@ -54,16 +54,16 @@ use Rattle.cb_peer_state.specs.declared.state.State.{State}
 use Rattle.cb_peer_state.specs.declared.state.State.TheVariants.{Start, Greeted, Ready, Closed}
 use Rattle.cb_peer_state.specs.Questions.{about, fits, is_nil, question_of, short_in, told_of}
 use Rattle.cb_peer_state.specs.Receiving.{Outcome, asks, brought, by_compact, by_headers, by_phase, completed_by, ended, ends, falls_back, filled_by, given_up, gives, greeting, heard_of, in_greeted, in_ready, in_start, introduced, processed, received, short_heard, txs_heard}
-use Rattle.cb_peer_state.specs.Replying.{answered, before_first, before_parent, excerpt_answered, given_told, heads_by, heads_for, heads_told, is_block, is_workless, more_headers, need_told, news_told, paired, pairs_told, rebuilt_by, replied, served_told, short_told, taken_told, tip_told, tx_request, wanted_told, wish_told, without_brought}
+use Rattle.cb_peer_state.specs.Replying.{answered, before_first, excerpt_answered, given_told, heads_by, heads_for, heads_told, is_block, is_workless, more_headers, need_told, news_told, paired, pairs_told, rebuilt_by, replied, served_told, short_told, taken_told, tip_told, tx_request, wanted_told, wish_told, header_in, is_orphan, orphaned, search, seeks, txs_told}
 use Rattle.cb_peer_state.specs.declared.session_state.SessionState.{SessionState}
-use Rattle.cb_peer_state.specs.State.{dropping, is_partial, landing, next_nonce, remembers, unless_remembered, with_fallen, with_fetch, with_lacking, with_made, with_partial}
+use Rattle.cb_peer_state.specs.State.{dropping, is_partial, landing, next_nonce, remembers, unless_remembered, with_fallen, with_fetch, with_lacking, with_made, with_partial, seeking, with_child, with_unknown}
 use Rattle.cb_peer_state.proofs.Cases.{by_test, ends_cases}
 use Rattle.cb_peer_state.proofs.Resuming.{resuming_cases}
-use Rattle.cb_peer_state.proofs.Behind.{any_more}
+use Rattle.cb_peer_state.proofs.Behind.{any_more, orphaned_cases}
 use Rattle.cb_peer_state.specs.Laws.{asks_for_block, names_block}
 use Rattle.cb_trace.specs.Whole.{lacking_of, missing_in, needed_in}
-use Rattle.cb_trace.proofs.Fetches.{Each, Fetches, Tests, rebuilding, all_taken, all_wanted, back_fetches, given_up_fetches, idle_fetches, lands_fetches, none_each, same_each, with_rebuilding}
-use Rattle.cb_trace.proofs.Quiet.{IsRare, NoneOf, excerpt_none, greeting_none, more_none, news_none, none_of_both, parent_none, request_none, served_none, unless_none}
+use Rattle.cb_trace.proofs.Fetches.{Each, Fetches, Tests, rebuilding, all_taken, all_wanted, back_fetches, given_up_fetches, idle_fetches, lands_fetches, none_each, same_each, with_rebuilding, wanting_fetches}
+use Rattle.cb_trace.proofs.Quiet.{IsRare, NoneOf, excerpt_none, greeting_none, more_none, news_none, none_of_both, served_none, unless_none, search_none}
 
 -- ---- what is asked for
 
@@ -112,13 +112,11 @@ asked_by_entries hash [] none = refl
 asked_by_entries hash (first ∷ others) none = rw none refl
 
 -- the transactions of an `inv` and the headers before its blocks
-need_asks : (s : SessionState) (need : Need) → AsksNone (asking_for (filter_map tx_request need.entries) ++ unless_remembered s (cond (list_any is_block need.entries) (asking_headers need.locator ∷ []) []))
+need_asks : (s : SessionState) (need : Need) → AsksNone (asking_for (filter_map tx_request need.entries) ++ search (list_any is_block need.entries) s need.locator)
 need_asks s need hash =
-    let behind : List Message = cond (list_any is_block need.entries) (asking_headers need.locator ∷ []) [] in
-    none_of_both (asks_for_block hash) (asking_for (filter_map tx_request need.entries)) (unless_remembered s behind)
-    (asked_by_entries hash (filter_map tx_request need.entries) (no_block_among_txs hash need.entries))
-    (unless_none (asks_for_block hash) s behind
-    (by_test (NoneOf (asks_for_block hash)) (list_any is_block need.entries) (asking_headers need.locator ∷ []) [] (λ _. request_none (asks_for_block hash) need.locator (rare hash)) (λ _. refl)))
+    let found = list_any is_block need.entries in
+    none_of_both (asks_for_block hash) (asking_for (filter_map tx_request need.entries)) (search found s need.locator)
+    (asked_by_entries hash (filter_map tx_request need.entries) (no_block_among_txs hash need.entries)) (search_none (asks_for_block hash) found s need.locator (rare hash))
 
 -- a request of a compact block or of a whole one names it alone
 named_is : (compact : Bool) (hash other : Hash256) (others : Bool) → (names_block hash (request_of compact other) || others) ≡ (same hash other || others)
@@ -265,7 +263,7 @@ ready_comes : (t : Tests) (item : Option Item) (s : SessionState) (message : Mes
 unfolding in_ready
 ready_comes t item s messages.SendHeaders f = quiet_comes t item (by_headers s) f
 ready_comes t item s (messages.SendCmpct relay) f = quiet_comes t item (by_compact relay s) (compact_fetches t relay s f)
-ready_comes t item s (messages.Headers []) f = quiet_comes t item s f
+ready_comes t item s (messages.Headers []) f = quiet_comes t item (with_unknown false s) f
 ready_comes t item s (messages.Headers (first ∷ others)) f = record { fetches = f; sought = none_each t.missing; asked = silent t }
 ready_comes t item s (messages.Inv entries) f =
     by_test (Comes t item) (is_nil (told_of entries)) (ends s []) (asks s [] (About subjects.Inventory)) (λ _. quiet_comes t item s f) (λ _. record { fetches = f; sought = none_each t.missing; asked = silent t })
@@ -299,25 +297,36 @@ processed_comes t s (Some (Bad command fault)) f = over_comes t (Some (Bad comma
 
 -- ---- answers
 
+search_asks : (found : Bool) (s : SessionState) (locator : List Hash256) → AsksNone (search found s locator)
+search_asks found s locator hash = search_none (asks_for_block hash) found s locator (rare hash)
+
+seeks_comes : (t : Tests) (item : Option Item) (s : SessionState) (locator : List Hash256) → FetchesAt t s → Comes t item (seeks s locator)
+seeks_comes t item s locator f = plain_comes t item (seeking true s) (search true s locator) f (search_asks true s locator)
+
+-- a block that came before its parent lacks
+orphaned_comes : (t : Tests) (item : Option Item) (s : SessionState) (header : Option Header) (locator : List Hash256) → ((of : Header) → header ≡ Some of → Each t.lacks (block_hash of ∷ [])) → FetchesAt t s → Comes t item (orphaned s header locator)
+orphaned_comes t item s header locator lack f =
+    orphaned_cases (Comes t item) s header locator (seeks_comes t item s locator f)
+    (λ of is _. quiet_comes t item (with_child (block_hash of) of.prev s) (wanting_fetches t s.fetch s.compact.partial (block_hash of) (lack of is) f))
+
 heads_by_comes : (t : Tests) (item : Option Item) (s : SessionState) (refused : Option Fault) (locator : List Hash256) → FetchesAt t s → Comes t item (heads_by s item refused locator)
 heads_by_comes t item s (Some faults.BadWork) locator f = over_comes t item reasons.BadBlock s
-heads_by_comes t item s (Some faults.NoParent) locator f = unless_comes t item s s (asking_headers locator ∷ []) f (λ _. refl)
-heads_by_comes t item s (Some other) locator f = quiet_comes t item s f
-heads_by_comes t item s None locator f = unless_comes t item s s (more_headers item) f (λ hash. more_none (asks_for_block hash) item (rare hash))
-
-parent_asks : (refused : Option Fault) (locator : List Hash256) → AsksNone (before_parent refused locator)
-parent_asks refused locator hash = parent_none (asks_for_block hash) refused locator (rare hash)
+heads_by_comes t item s (Some faults.NoParent) locator f = seeks_comes t item s locator f
+heads_by_comes t item s (Some other) locator f = quiet_comes t item (with_unknown false s) f
+heads_by_comes t item s None locator f = unless_comes t item (with_unknown false s) s (more_headers item) f (λ hash. more_none (asks_for_block hash) item (rare hash))
 
 -- the header of a compact block: its block is missing where the answer lists one
 short_told_comes : (t : Tests) (item : Option Item) (s : SessionState) (hash : Hash256) (heads : Heads) → (is_nil heads.lack ≡ false → Each t.missing (matched item (Some Match))) → FetchesAt t s → Comes t item (short_told s hash heads)
 unfolding short_told
 short_told_comes t item s hash heads each f =
-    let sent = unless_remembered s (before_parent heads.refused heads.locator) in
-    let none : AsksNone sent = λ other. unless_none (asks_for_block other) s (before_parent heads.refused heads.locator) (parent_asks heads.refused heads.locator other) in
-    let there : Outcome = ends (landing hash s) sent in
-    by_test (Comes t item) (is_workless heads.refused) (ended reasons.BadBlock s) (cond (is_nil heads.lack) there (asks s sent Match)) (λ _. over_comes t item reasons.BadBlock s)
+    let found = is_orphan heads.refused in
+    let sent = search found s heads.locator in
+    let none : AsksNone sent = search_asks found s heads.locator in
+    let u = seeking found s in
+    let there : Outcome = ends (landing hash u) sent in
+    by_test (Comes t item) (is_workless heads.refused) (ended reasons.BadBlock s) (cond (is_nil heads.lack) there (asks u sent Match)) (λ _. over_comes t item reasons.BadBlock s)
     (λ _.
-    by_test (Comes t item) (is_nil heads.lack) there (asks s sent Match) (λ _. plain_comes t item (landing hash s) sent (lands_fetches t s.fetch s.compact.partial hash f) none)
+    by_test (Comes t item) (is_nil heads.lack) there (asks u sent Match) (λ _. plain_comes t item (landing hash u) sent (lands_fetches t s.fetch s.compact.partial hash f) none)
     (λ lacks. record { fetches = f; sought = each lacks; asked = none_asked t.needed sent none }))
 
 heads_for_comes : (t : Tests) (item : Option Item) (s : SessionState) (short : Option HeaderAndShortIds) (heads : Heads) → Each t.lacks heads.lack → (is_nil heads.lack ≡ false → Each t.missing (matched item (Some Match))) → FetchesAt t s
@@ -368,16 +377,21 @@ pairs_comes : (t : Tests) (item : Option Item) (s : SessionState) (pairs : List 
 unfolding pairs_told
 pairs_comes t item s pairs each f = paired_comes t item s (short_in item) pairs each f
 
-taken_comes : (t : Tests) (item : Option Item) (s : SessionState) (refused : Option Fault) (locator : List Hash256) → FetchesAt t s → Comes t item (taken_told s refused locator)
+taken_comes : (t : Tests) (item : Option Item) (s : SessionState) (header : Option Header) (refused : Option Fault) (locator : List Hash256) → (is_orphan refused ≡ true → (of : Header) → header ≡ Some of → Each t.lacks (block_hash of ∷ [])) → FetchesAt t s → Comes t item (taken_told s header refused locator)
 unfolding taken_told
-taken_comes t item s None locator f = quiet_comes t item s f
-taken_comes t item s (Some faults.Known) locator f = quiet_comes t item s f
-taken_comes t item s (Some faults.NoParent) locator f = unless_comes t item s s (asking_headers locator ∷ []) f (λ _. refl)
-taken_comes t item s (Some other) locator f = over_comes t item reasons.BadBlock s
+taken_comes t item s header None locator lack f = quiet_comes t item s f
+taken_comes t item s header (Some faults.Known) locator lack f = quiet_comes t item s f
+taken_comes t item s header (Some faults.NoParent) locator lack f = orphaned_comes t item s header locator (lack refl) f
+taken_comes t item s header (Some other) locator lack f = over_comes t item reasons.BadBlock s
 
-given_comes : (t : Tests) (item : Option Item) (s : SessionState) (refused : Option Fault) (locator : List Hash256) → FetchesAt t s → Comes t item (given_told s refused locator)
+given_comes : (t : Tests) (item : Option Item) (s : SessionState) (header : Header) (refused : Option Fault) (locator : List Hash256) → (is_orphan refused ≡ true → Each t.lacks (block_hash header ∷ [])) → FetchesAt t s → Comes t item (given_told s header refused locator)
 unfolding given_told
-given_comes t item s refused locator f = unless_comes t item s s (before_parent refused locator) f (parent_asks refused locator)
+given_comes t item s header refused locator lack f =
+    by_test (Comes t item) (is_orphan refused) (orphaned s (Some header) locator) (ends s [])
+    (λ orphan. orphaned_comes t item s (Some header) locator (λ of is. subst (λ (h : Header). Each t.lacks (block_hash h ∷ [])) (some_header header of is) (lack orphan)) f) (λ _. quiet_comes t item s f)
+  where
+    some_header : (a b : Header) → Some a ≡ Some b → a ≡ b
+    some_header a b e = cc
 
 excerpt_comes : (t : Tests) (item : Option Item) (s : SessionState) (excerpt : Excerpt) → FetchesAt t s → Comes t item (excerpt_answered s excerpt)
 unfolding excerpt_answered
@@ -390,7 +404,7 @@ served_comes t item s pieces f = plain_comes t item (with_made (shorts pieces) s
 
 need_comes : (t : Tests) (item : Option Item) (s : SessionState) (need : Need) → FetchesAt t s → Comes t item (need_told s need)
 unfolding need_told
-need_comes t item s need f = plain_comes t item s _ f (need_asks s need)
+need_comes t item s need f = plain_comes t item (seeking (list_any is_block need.entries) s) _ f (need_asks s need)
 
 wanted_comes : (t : Tests) (item : Option Item) (s : SessionState) (need : Need) → Each t.needed (blocks_in need.entries) → Each t.lacks (blocks_in need.entries) → FetchesAt t s → Comes t item (wanted_told s need)
 unfolding wanted_told
@@ -401,7 +415,7 @@ wanted_comes t item s need needs lack f =
 news_comes : (t : Tests) (item : Option Item) (s : SessionState) (news : News) → FetchesAt t s → Comes t item (news_told s item news)
 unfolding news_told
 news_comes t item s news f =
-    let sent = (tip_told s news ++ telling (without_brought item news.txids)) ++ wish_told s news.high in
+    let sent = (tip_told s news ++ txs_told s item news.txids) ++ wish_told s news.high in
     record { fetches = f; sought = none_each t.missing; asked = none_asked t.needed sent (λ hash. news_none (asks_for_block hash) s item news (rare hash) (λ _. refl) (λ _. refl)) }
 
 -- ---- what an answer tells
@@ -423,6 +437,18 @@ short_missing t q (Some (Good (messages.CmpctBlock short))) subjects.Headers hea
 short_missing t q (Some (Good (messages.CmpctBlock short))) subject heads fit tells lacks = absurd cc
 short_missing t q item subject heads fit tells lacks = none_each t.missing
 
+-- a block that came whole before its parent lacks
+orphan_lacks : (t : Tests) (q : SessionState) (item : Option Item) (subject : Subject) (taken : Taken) (of : Header) → fits (about subject q item) (answers.Taken taken) ≡ true → Tells t (about subject q item) (answers.Taken taken) → is_orphan taken.refused ≡ true → header_in item ≡ Some of
+    → Each t.lacks (block_hash of ∷ [])
+orphan_lacks t q (Some (Good (messages.Block block))) subjects.Block taken of fit tells orphan is =
+    let same_header : block.header ≡ of = some_of block.header of is in
+    subst (λ (h : Header). Each t.lacks (block_hash h ∷ [])) same_header (subst (λ (b : Bool). Each t.lacks (cond b (block_hash block.header ∷ []) [])) orphan tells.lacks)
+  where
+    some_of : (a b : Header) → Some a ≡ Some b → a ≡ b
+    some_of a b e = cc
+orphan_lacks t q (Some (Good (messages.Block block))) subject taken of fit tells orphan is = absurd cc
+orphan_lacks t q item subject taken of fit tells orphan is = absurd cc
+
 -- an answer that fits
 replied_comes : (t : Tests) (q s : SessionState) (item : Option Item) (stage : Stage) (answer : Answer) → fits (question_of q item stage) answer ≡ true → Tells t (question_of q item stage) answer → Each t.missing (matched item (Some stage))
     → FetchesAt t s → Comes t item (replied s item stage answer)
@@ -434,12 +460,14 @@ replied_comes t q s item (About subject) (answers.Heads heads) fit tells each f 
 replied_comes t q s item (About subject) (answers.Locator locator) fit tells each f = unless_comes t item s s (asking_headers locator ∷ []) f (λ _. refl)
 replied_comes t q s item (About subject) (answers.Need need) fit tells each f = need_comes t item s need f
 replied_comes t q s item (About subject) (answers.TxTaken refused) fit tells each f = quiet_comes t item s f
-replied_comes t q s item (About subject) (answers.Taken taken) fit tells each f = taken_comes t item s taken.refused taken.locator f
+replied_comes t q s item (About subject) (answers.Taken taken) fit tells each f =
+    taken_comes t item s (header_in item) taken.refused taken.locator (λ orphan of is. orphan_lacks t q item subject taken of fit tells orphan is) f
 replied_comes t q s item (About subject) (answers.Served pieces) fit tells each f = served_comes t item s pieces f
 replied_comes t q s item (About subject) (answers.Following headers) fit tells each f = plain_comes t item s (messages.Headers headers ∷ []) f (λ _. refl)
 replied_comes t q s item (About subject) (answers.Excerpt excerpt) fit tells each f = excerpt_comes t item s excerpt f
 replied_comes t q s item Match (answers.Pairs pairs) fit tells each f = pairs_comes t item s pairs each f
-replied_comes t q s item (Give block) (answers.Taken taken) fit tells each f = given_comes t item s taken.refused taken.locator f
+replied_comes t q s item (Give block) (answers.Taken taken) fit tells each f =
+    given_comes t item s block.header taken.refused taken.locator (λ orphan. subst (λ (b : Bool). Each t.lacks (cond b (block_hash block.header ∷ []) [])) orphan tells.lacks) f
 replied_comes t q s item Wanted (answers.Need need) fit tells each f = wanted_comes t item s need tells.needed tells.lacks f
 replied_comes t q s item Fresh (answers.News news) fit tells each f = news_comes t item s news f
 replied_comes t q s item stage other fit tells each f = record { fetches = f; sought = none_each t.missing; asked = silent t }

@@ -20,7 +20,7 @@ use Rattle.cb_peer_state.specs.declared.settings.Settings.{Settings}
 use Rattle.cb_peer_state.specs.declared.session_state.SessionState.{SessionState}
 use Rattle.cb_peer_state.specs.Pings.{ping_nonce}
 use Rattle.cb_peer_state.specs.Questions.{is_nil}
-use Rattle.cb_peer_state.specs.Replying.{differ}
+use Rattle.cb_peer_state.specs.Replying.{differ, is_orphan}
 use Rattle.cb_peer_state.specs.State.{is_closed, is_ready}
 use Rattle.cb_trace.specs.declared.trace.TraceEntry.{TraceEntry}
 use Rattle.cb_trace.specs.Fold.{Account, account_step, replies, sends, session_of}
@@ -104,10 +104,13 @@ abbrev pub needed_in : Question → Answer → List Hash256
 needed_in (questions.Want entries) (answers.Need need) = blocks_in need.entries
 needed_in question answer = []
 
--- The blocks that an answer lists as missing: of headers, or of those that were asked about.
+-- The blocks that an answer tells as missing: those that it lists of headers, or of those that were
+-- asked about; or the block that the hall was given before its parent.
 abbrev pub lacking_of : Question → Answer → List Hash256
 lacking_of (questions.Headers headers) (answers.Heads heads) = heads.lack
 lacking_of (questions.Want entries) (answers.Need need) = blocks_in need.entries
+lacking_of (questions.GiveBlock given) (answers.Taken taken) =
+    if is_orphan taken.refused then block_hash given.block.header ∷ [] else []
 lacking_of question answer = []
 
 -- The block whose header alone was asked about, if the answer lists a missing block. A session asks

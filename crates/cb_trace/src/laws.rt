@@ -81,8 +81,9 @@ pub fn headers_are_told_where_asked_for()
 {}
 
 /// The hall listed every block in flight, and every block requested from the peer, as needed. It
-/// listed every queued block as missing. Any of these may also be the block of a compact block (BIP
-/// 152) that was missing when the hall was asked about its header.
+/// listed every queued block as missing, or refused it since its parent is unknown. Any of these
+/// may also be the block of a compact block (BIP 152) that was missing when the hall was asked
+/// about its header.
 pub fn blocks_are_fetched_as_told()
     ensures flight { (settings : Settings) (entries : List TraceEntry) (hash : Hash256) →
         has (session_of settings entries).fetch.flight hash ≡ true →

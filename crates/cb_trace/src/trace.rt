@@ -3,14 +3,14 @@ ghost use Rattle.cb_base.specs.declared.fault.Fault.TheVariants.{Memory};
 ghost use Rattle.cb_peer_state.specs.Event.{ends_at_once};
 ghost use Rattle.cb_peer_state.specs.Outcomes.{Answers};
 ghost use Rattle.cb_peer_state.specs.Session.{is_light, spares, takes_no_memory};
-ghost use Rattle.cb_peer_state.specs.State.{is_closed};
+ghost use Rattle.cb_peer_state.specs.State.{is_closed, is_fetching};
 ghost use Rattle.cb_trace.specs.Fold.{entry_step};
 ghost use Rattle.cb_trace.specs.Kept.{KeepsHistory, StillKeeps};
 
 use crate::asking::questions_asked;
-use cb_base::{Fault, Seed};
+use cb_base::{Fault, Hash256, Seed};
 use cb_journal::Question;
-use cb_peer::{CloseReason, Event, Session, Settings, State};
+use cb_peer::{CloseReason, Event, Peer, Session, Settings, State};
 use cb_talk::Outgoing;
 use std::alloc::Global;
 use std::marker::Model;
@@ -187,6 +187,34 @@ impl Trace {
         ensures { result ≡ length self.now.session.fetch.flight }
     {
         self.session.in_flight()
+    }
+
+    /// Whether the session has blocks in flight or wanted.
+    pub fn is_fetching(&self) -> bool
+        ensures { result ≡ is_fetching self.now.session.fetch }
+    {
+        self.session.is_fetching()
+    }
+
+    /// What the peer told about itself.
+    pub fn peer(&self) -> Peer
+        ensures { result ≡ self.now.session.peer }
+    {
+        self.session.peer()
+    }
+
+    /// The tip that the peer was told last.
+    pub fn told_tip(&self) -> Option<Hash256>
+        ensures { result ≡ self.now.session.marks.tip }
+    {
+        self.session.told_tip()
+    }
+
+    /// Whether headers were requested because something was unknown, and weren't answered yet.
+    pub fn seeks(&self) -> bool
+        ensures { result ≡ self.now.session.unknown }
+    {
+        self.session.seeks()
     }
 
     /// The entries since the base, in order.

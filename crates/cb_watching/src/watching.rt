@@ -85,6 +85,7 @@ impl Watched {
             blocks: at_once.wrapping_add(behind),
             flight: status.flight(),
             pongs: status.pongs(),
+            unknown: status.seeks(),
         };
         self.watch.note(sight, now);
     }
@@ -94,8 +95,7 @@ impl Watched {
         if self.link.status.state() != State::Ready {
             return false;
         }
-        self.watch.probed = true;
-        self.watch.asked = Some(self.watch.asked.unwrap_or(now));
+        self.watch.probe(now);
         self.link.status.set_probe();
         true
     }

@@ -1,4 +1,5 @@
 pub mod Keeping
+pub mod Places
 pub mod Renewing
 pub mod Serving
 pub mod Starting

@@ -1,3 +1,5 @@
+pub mod Due
 pub mod Flags
 pub mod PeerWork
+pub mod Seen
 pub mod SharedHall

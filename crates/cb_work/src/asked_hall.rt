@@ -1,7 +1,7 @@
+use crate::seen::{Seen, ask_and_see};
 use cb_base::{Fault, Seed, Shared};
 use cb_hall::{Badge, Hall};
-use cb_journal::{Answer, Question};
-use cb_trace::Oracle;
+use cb_journal::Question;
 use std::sync::{Mutex, Wait};
 
 /// A hall behind its lock that can be asked and lends its seed, and nothing else: who holds it can
@@ -27,19 +27,20 @@ impl<R: Wait + Drop> AskedHall<R> {
         AskedHall { rt, hall }
     }
 
-    /// Asks the hall a question under a badge. The badge counts an answer, and a refusal adds none.
+    /// Asks the hall a question under a badge, and tells whether that changed the tip. The badge
+    /// counts an answer, and a refusal adds none.
     ///
     /// Fails as the hall does (`Hall::call`).
-    pub fn ask(&self, badge: &mut Badge, question: Question) -> Result<Answer, Fault>
-        ensures ok { IfOk result (λ answer. HasCounted badge.old badge.new
-            (record { question = question; answer = answer } ∷ [])) }
-        ensures fits { IfOk result (λ answer. fits question answer ≡ true) }
+    pub fn ask(&self, badge: &mut Badge, question: Question) -> Result<Seen, Fault>
+        ensures ok { IfOk result (λ seen. HasCounted badge.old badge.new
+            (record { question = question; answer = seen.answer } ∷ [])) }
+        ensures fits { IfOk result (λ seen. fits question seen.answer ≡ true) }
         ensures err { OnErr result (HasCounted badge.old badge.new []) }
         ensures refused { IfErr result (λ fault. IsMarked badge.new fault) }
         ensures kinds { IfErr result (λ fault. (fault ≡ JournalFull) ⊎ (fault ≡ Memory)) }
     {
         let mut guard = self.hall.lock(&self.rt);
-        guard.ask(badge, question)
+        ask_and_see(&mut *guard, badge, question)
     }
 
     /// The seed of the hall's tables.

@@ -1,6 +1,7 @@
 ghost use Rattle.std.specs.Prelude.{◌≡◌, false, []};
 ghost use Rattle.cb_work.specs.Flags.{HasLooked};
 
+use crate::due::Told;
 use crate::flags::{Beats, Flags};
 use crate::traffic::{BlockPath, Brought, Totals, Traffic};
 use cb_base::Shared;
@@ -26,6 +27,19 @@ pub struct ConnectionStatus {
     pongs: AtomicU64,
     /// How many blocks were in flight after the latest step.
     flight: AtomicU64,
+    /// Whether blocks were in flight or wanted after the latest step.
+    fetching: AtomicBool,
+    /// Whether headers of something unknown were awaited after the latest step.
+    seeks: AtomicBool,
+    /// The tip that the peer was told last, as `Told` has it.
+    told: AtomicU64,
+    /// Whether the peer wants compact blocks unasked.
+    high: AtomicBool,
+    /// Whether nobody asked yet whether the peer was told its first tip.
+    fresh: AtomicBool,
+    /// The latest tip that the session brought and that wasn't taken yet, as `tip_word` has it; 0
+    /// if there is none.
+    brought: AtomicU64,
     full: AtomicU64,
     compact: AtomicU64,
     completed: AtomicU64,
@@ -61,6 +75,12 @@ impl ConnectionStatus {
             sent: AtomicU64::new(0),
             pongs: AtomicU64::new(0),
             flight: AtomicU64::new(0),
+            fetching: AtomicBool::new(false),
+            seeks: AtomicBool::new(false),
+            told: AtomicU64::new(0),
+            high: AtomicBool::new(false),
+            fresh: AtomicBool::new(true),
+            brought: AtomicU64::new(0),
             full: AtomicU64::new(0),
             compact: AtomicU64::new(0),
             completed: AtomicU64::new(0),
@@ -95,6 +115,11 @@ impl ConnectionStatus {
     /// Makes a tick due.
     pub fn set_tick(&self) {
         self.tick.store(true, Ordering::SeqCst);
+    }
+
+    /// Makes a tick due, unless one is. Returns whether none was.
+    pub fn add_tick(&self) -> bool {
+        !self.tick.load(Ordering::SeqCst) && !self.tick.swap(true, Ordering::SeqCst)
     }
 
     /// Makes a probe due: the next tick of the work gives the session a `Probe`.
@@ -155,6 +180,45 @@ impl ConnectionStatus {
     /// received yet.
     pub fn flight(&self) -> u64 {
         self.flight.load(Ordering::SeqCst)
+    }
+
+    /// Whether blocks were in flight or wanted after the latest step.
+    pub fn is_fetching(&self) -> bool {
+        self.fetching.load(Ordering::SeqCst)
+    }
+
+    /// Whether headers of something unknown were awaited after the latest step.
+    pub fn seeks(&self) -> bool {
+        self.seeks.load(Ordering::SeqCst)
+    }
+
+    /// What the peer was told of the tip, as of the latest step.
+    pub fn told(&self) -> Told {
+        Told {
+            tip: self.told.load(Ordering::SeqCst),
+            high: self.high.load(Ordering::SeqCst),
+        }
+    }
+
+    /// Whether the peer was told its first tip since the last call.
+    pub fn take_first(&self) -> bool {
+        self.told.load(Ordering::SeqCst) != 0
+            && self.fresh.load(Ordering::SeqCst)
+            && self.fresh.swap(false, Ordering::SeqCst)
+    }
+
+    /// Notes that the session brought the hall this tip, as `tip_word` has it.
+    pub fn note_brought(&self, tip: u64) {
+        self.brought.store(tip, Ordering::SeqCst);
+    }
+
+    /// The latest tip that the session brought since the last call that took one, if no block is in
+    /// flight or wanted; 0 if there is none. So only the last of many blocks is told of.
+    pub fn take_brought(&self) -> u64 {
+        if self.brought.load(Ordering::SeqCst) == 0 || self.is_fetching() {
+            return 0;
+        }
+        self.brought.swap(0, Ordering::SeqCst)
     }
 
     /// How many `pong` messages were read (BIP 31).
@@ -221,6 +285,10 @@ impl ConnectionStatus {
         self.sent.fetch_add(traffic.sent, Ordering::SeqCst);
         self.pongs.fetch_add(traffic.pongs, Ordering::SeqCst);
         self.flight.store(traffic.flight, Ordering::SeqCst);
+        self.fetching.store(traffic.fetching, Ordering::SeqCst);
+        self.seeks.store(traffic.seeks, Ordering::SeqCst);
+        self.high.store(traffic.told.high, Ordering::SeqCst);
+        self.told.store(traffic.told.tip, Ordering::SeqCst);
         if let Some(brought) = traffic.block {
             self.blocks(brought.path).fetch_add(1, Ordering::SeqCst);
             self.saved

@@ -6,9 +6,11 @@
 mod asked_hall;
 mod carried;
 mod connection_status;
+mod due;
 mod flags;
 mod outlet;
 mod peer_work;
+mod seen;
 mod shared_hall;
 mod traffic;
 
@@ -19,8 +21,10 @@ pub use cb_reader::Input;
 pub use cb_talk::MessageSink;
 pub use cb_trace::{Oracle, Trace};
 pub use connection_status::{ConnectionStatus, PeerFlags};
+pub use due::{Told, due_places, each_due_stands_once};
 pub use flags::{Beats, Flags};
 pub use outlet::Outlet;
 pub use peer_work::{NotStarted, PeerWork};
+pub use seen::{Seen, ask_and_see, submit_and_see, tip_word};
 pub use shared_hall::SharedHall;
 pub use traffic::{BlockPath, Brought, Totals, Traffic};

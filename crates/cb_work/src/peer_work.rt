@@ -14,6 +14,7 @@ ghost use Rattle.cb_work.specs.declared.flags.Beats.{Beats};
 ghost use Rattle.cb_work.specs.PeerWork.{GaveBeats, HoldsNothing, IsAtTime, IsPrimed, IsSamePeer, Serves, ServesNext, ServesOn, WasGiven, WasTicked, is_over, label_of};
 
 use crate::carried::{Carried, Rebuilding, greeting_of};
+use crate::due::Told;
 use crate::flags::{Beats, Flags};
 use crate::outlet::Outlet;
 use crate::traffic::Traffic;
@@ -395,6 +396,9 @@ impl<S: MessageSink + Drop, H: Oracle + Drop, F: Flags> PeerWork<S, H, F> {
             sent: mem::replace(&mut self.untold, 0),
             pongs: carried.pongs,
             flight: self.trace.in_flight() as u64,
+            fetching: self.trace.is_fetching(),
+            seeks: self.trace.seeks(),
+            told: Told::by(&self.trace),
             block,
             state: self.trace.state(),
         });

@@ -1,5 +1,6 @@
 use crate::asked_hall::AskedHall;
 use crate::connection_status::ConnectionStatus;
+use crate::seen::tip_word;
 use cb_base::{Fault, Seed, Shared};
 use cb_hall::{Badge, Hall};
 use cb_journal::{Answer, Question};
@@ -7,7 +8,7 @@ use cb_trace::Oracle;
 use std::sync::{Mutex, Wait};
 
 /// The hall behind its lock, as each connection's work has it. The size of each block that is
-/// handed over is noted in the connection's status.
+/// handed over is noted in the connection's status, and the tip that a question brought.
 ///
 /// No clause can name the hall between two calls, since others call it too. So what is told here
 /// speaks of the badge alone.
@@ -44,7 +45,11 @@ impl<R: Wait + Drop> Oracle for SharedHall<R> {
         if matches!(question, Question::GiveBlock(_)) {
             self.status.note_given(question.weight());
         }
-        self.hall.ask(badge, question)
+        let seen = self.hall.ask(badge, question)?;
+        if let Some(tip) = seen.tip {
+            self.status.note_brought(tip_word(&tip));
+        }
+        Ok(seen.answer)
     }
 
     fn seed(&self) -> Seed {

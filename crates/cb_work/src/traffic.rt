@@ -1,3 +1,4 @@
+use crate::due::Told;
 use cb_peer_state::State;
 
 /// How a block came that was handed to the hall.
@@ -39,6 +40,12 @@ pub struct Traffic {
     pub pongs: u64,
     /// How many blocks are in flight after the step.
     pub flight: u64,
+    /// Whether blocks are in flight or wanted after the step.
+    pub fetching: bool,
+    /// Whether headers of something unknown are awaited after the step.
+    pub seeks: bool,
+    /// What the peer was told of the tip, as of the end of the step.
+    pub told: Told,
     /// The block that the step handed to the hall, if it did.
     pub block: Option<Brought>,
     /// How far the session is after the step.
@@ -46,7 +53,8 @@ pub struct Traffic {
 }
 
 impl Traffic {
-    /// Nothing was moved by a session that is so far, and no block is in flight.
+    /// Nothing was moved by a session that is so far. Nothing is in flight, wanted or awaited, and
+    /// its peer was told nothing.
     pub fn nothing(state: State) -> Traffic {
         Traffic {
             messages: 0,
@@ -55,6 +63,12 @@ impl Traffic {
             sent: 0,
             pongs: 0,
             flight: 0,
+            fetching: false,
+            seeks: false,
+            told: Told {
+                tip: 0,
+                high: false,
+            },
             block: None,
             state,
         }

@@ -13,7 +13,7 @@ pub returns-in-Some-clause-silent : goal.returns-in-Some-clause-silent
 returns-in-Some-clause-silent c = λ weighs light.
     let is = noted c.args.session.now c.want.new.self c.args.item.now c.as_slice.result.now c.args.heads.now.lack c.before_first.result c.in_ok-want.ensures.wanted c.as_slice.ensures c.before_first.ensures in
     let parent : c.in-Some.fault ≡ NoParent = search rules in
-    c.ask_headers.ensures.silent (heads_asked c.args.session.now c.want.new.self c.args.item.now c.args.heads.now c.in-Some.fault is c.in-Some.is parent light)
+    c.end_seeking.ensures.silent (heads_asked c.args.session.now c.want.new.self c.args.item.now c.args.heads.now c.in-Some.fault is c.in-Some.is parent light)
 
 pub returns-in_err-want-clause-silent : goal.returns-in_err-want-clause-silent
 returns-in_err-want-clause-silent c = λ weighs light.
