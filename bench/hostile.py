@@ -14,13 +14,11 @@ import sys
 import tempfile
 from pathlib import Path
 
-if not __package__:  # called as a file
-    sys.path.insert(0, str(Path(__file__).resolve().parents[1]))
+sys.path.insert(0, str(Path(__file__).resolve().parents[1]))
 
 from bench.tools.hall_costs import LIMIT, PROVED, all_rows, header_plays, told, told_memory
 from bench.tools.programs import built
-from bench.tools.timed_plays import Runs, seconds_of
-from bench.tools.turns import adopt
+from bench.tools.turns import Runs, adopt, seconds_of
 
 TURNS, LEAST = 5, 20e-3
 

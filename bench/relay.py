@@ -2,7 +2,7 @@
 """Draws what a block of 1 MB costs from node to node, whole and in short ids: python3 bench/relay.py [PROGRAM] [--rate MBIT] [--tick MS]
 [--rounds N] [--draw]
 
-It needs the built program (crates/cbrelay/out/cbrelay, as ./build leaves it), python3, and on Linux root or user namespaces, with `unshare`,
+It needs the program, python3, and on Linux root or user namespaces, with `unshare`,
 `nsenter`, `ip` and `tc` (Debian's util-linux and iproute2). It takes some three minutes. All stands in network namespaces that it makes by
 `unshare -n`, and that end with it.
 
@@ -11,7 +11,7 @@ second each way (`tc`, a token bucket) and adds no delay. The operator of the li
 block of 3,900 transactions. How long that takes until all nodes have its tip, and how many bytes go out by all links meanwhile, all headers
 counted, is told of
 
-- whole blocks: no node learns that its peer knows compact blocks, since `sendcmpct` is kept back (bench/tools/without_compact.py);
+- whole blocks: no node learns that its peer knows compact blocks, since `sendcmpct` is kept back (bench/tools/between.py);
 - compact blocks (BIP 152), where all mempools hold 100, 99, 90, 50 or 0 % of the block's transactions. These were relayed before.
 
 Each row is the median of the rounds. The rows, with machine and date, are printed and go to bench/figures/relay_rows.txt; the picture of
@@ -29,20 +29,18 @@ import time
 from contextlib import ExitStack
 from pathlib import Path
 
-if not __package__:  # called as a file
-    sys.path.insert(0, str(Path(__file__).resolve().parents[1]))
+sys.path.insert(0, str(Path(__file__).resolve().parents[1]))
 
-from bench.tools.command_line import usage
-from bench.tools.full_blocks import FullChain
+from bench.tools.basics import shown
 from bench.tools.lines import picture
-from bench.tools.namespaces import Namespace, alone, linked
-from bench.tools.process_talk import NodeProcess, counted, shown
-from bench.tools.programs import ROOT, built
+from bench.tools.made_blocks import FullChain
+from bench.tools.process_talk import NodeProcess, counted
+from bench.tools.programs import ROOT, built, usage
 
 # Whom each node dials, and which one is given the block.
 SHAPES = {"a line of five nodes": ([(1, 0), (2, 1), (3, 2), (4, 3)], 0), "a star of five nodes": ([(1, 0), (2, 0), (3, 0), (4, 0)], 1)}
 COUNT, PORT, PROXY = 5, 18_444, 20_000
-FILTER = os.path.join(ROOT, "bench", "tools", "without_compact.py")
+FILTER = os.path.join(ROOT, "bench", "tools", "between.py")
 # How many per cent of the transactions the mempools hold; None stands for whole blocks.
 WAYS = {"whole": None, "100 %": 100, "99 %": 99, "90 %": 90, "50 %": 50, "0 %": 0}
 # What was measured, and the picture of it.
@@ -50,6 +48,70 @@ ROWS, PICTURE = Path(ROOT, "bench", "figures", "relay_rows.txt"), Path(ROOT, "do
 ROW = re.compile(r"\| (a [^|]+) \| (whole|\d+ %) \| ([\d.]+) \| ([\d.]+) \|")
 # How long the links have to be still, and how long we wait for anything.
 QUIET, PATIENCE = 0.3, 120
+# How many bytes a link passes on at once, and for how many milliseconds it queues at the most.
+BURST, QUEUE = 16_000, 400
+
+
+# ---- network namespaces with links between them
+
+
+def alone():
+    """Runs the script once more in a network namespace of its own, if it isn't yet. So no network of the machine is touched."""
+    if os.environ.get("ALONE") != "yes":
+        user = [] if os.geteuid() == 0 else ["--map-root-user"]
+        os.execvpe("unshare", ["unshare", *user, "--net", sys.executable, *sys.argv], {**os.environ, "ALONE": "yes"})
+
+
+def run(*words):
+    subprocess.run(words, check=True)
+
+
+class Namespace:
+    """A namespace, which lasts as long as a process that waits in it."""
+
+    def __init__(self, name):
+        self.name, self.links = name, []
+        self.holder = subprocess.Popen(["unshare", "--net", "sh", "-c", "ip link set lo up && echo up && exec cat"],
+                                       stdin=subprocess.PIPE, stdout=subprocess.PIPE)
+        if self.holder.stdout.readline() != b"up\n":
+            raise OSError("no namespace can be made")
+
+    def __enter__(self):
+        return self
+
+    def __exit__(self, *_):
+        self.holder.stdin.close()
+        self.holder.wait()
+
+    def inside(self):
+        """The words before a command that is to run inside."""
+        return ["nsenter", f"--net=/proc/{self.holder.pid}/ns/net", "--"]
+
+    def add(self, link, address, rate):
+        """An end of a link comes here, with this address. It sends so many megabits a second."""
+        run("ip", "link", "set", link, "netns", str(self.holder.pid))
+        run(*self.inside(), "ip", "address", "add", f"{address}/30", "dev", link)
+        run(*self.inside(), "ip", "link", "set", link, "up")
+        run(*self.inside(), "tc", "qdisc", "add", "dev", link, "root", "tbf", "rate", f"{rate}mbit", "burst", str(BURST), "latency", f"{QUEUE}ms")
+        self.links.append(link)
+
+    def sent(self):
+        """How many bytes went out by the links' ends here, with all their headers."""
+        with open(f"/proc/{self.holder.pid}/net/dev", encoding="ascii") as file:
+            rows = [line.split(":") for line in file if ":" in line]
+        return sum(int(row.split()[8]) for name, row in rows if name.strip() in self.links)
+
+
+def linked(one, other, number, rate):
+    """Links two namespaces. The address of the first end comes back."""
+    near, far = (f"10.0.{number}.{end}" for end in (1, 2))
+    run("ip", "link", "add", "name", f"near{number}", "type", "veth", "peer", "name", f"far{number}")
+    one.add(f"near{number}", near, rate)
+    other.add(f"far{number}", far, rate)
+    return near
+
+
+# ---- nodes
 
 
 class Network:
@@ -71,7 +133,7 @@ class Network:
         words = [word for address in dials for word in ("--connect", address)]
         words += ["--tick", str(self.given.tick), "--log", "off"]
         node = NodeProcess(self.program, *words, listen=f"0.0.0.0:{PORT}", seconds=PATIENCE, before=place.inside())
-        self.stack.enter_context(node).address()
+        self.stack.enter_context(node)
         return node
 
     def filtered(self, place, number, address):

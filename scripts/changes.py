@@ -20,7 +20,8 @@ class Changes:
         self.files = {repository.root / it for it in named}
 
     def git(self, *words):
-        ran = subprocess.run(["git", "-c", "core.quotepath=off", *words], cwd=self.repository.root, capture_output=True, text=True, check=False)
+        words = ["git", "-c", "core.quotepath=off", *words]
+        ran = subprocess.run(words, cwd=self.repository.root, capture_output=True, text=True, check=False)
         return ran.stdout.strip() if ran.returncode == 0 else ""
 
     def draw(self):
@@ -31,8 +32,8 @@ class Changes:
         """Returns the crates that changed, and then those above that name what changed."""
         crates = [*self.repository.crates.values()]
         changed = [it for it in crates if self.of(it, (*MADE_OF, "attacks")) or self.has_new_line(it)]
-        above = [it for it in crates if it not in changed and any(self.is_told(it, below) for below in self.repository.below(it) if below in changed)]
-        return changed + above
+        below = {it: [low for low in self.repository.below(it) if low in changed] for it in crates if it not in changed}
+        return changed + [it for it, those in below.items() if any(self.is_told(it, low) for low in those)]
 
     def of(self, crate, folders):
         """Returns the crate's files in these of its folders that changed, but wrong bodies that are gone."""
@@ -46,9 +47,11 @@ class Changes:
         return crate.line not in [it.split("#")[0].strip() for it in before]
 
     def is_told(self, crate, below):
-        """Whether a text of the crate names what stands in a file of one below that changed; where nothing does, whether it stands on it directly."""
+        """Whether a text of the crate names what stands in a file of one below that changed; where nothing does, whether it stands on it
+        directly."""
         files = self.of(below, MADE_OF)
-        names = {name for it in files if it.exists() for name in ([it.stem] if it.suffix == ".antt" else PUBLIC.findall(it.read_text(encoding="utf-8")))}
+        there = [it for it in files if it.exists()]
+        names = {name for it in there for name in ([it.stem] if it.suffix == ".antt" else PUBLIC.findall(it.read_text(encoding="utf-8")))}
         if not names:
             return bool(files) and below.name in crate.uses
         texts = (set(re.findall(r"\w+", it.read_text(encoding="utf-8"))) for it in [*crate.files(".rt"), *crate.files(".antt")])

@@ -1,27 +1,20 @@
 #!/usr/bin/env python3
-"""Looks whether what the documents name is in the tree: scripts/documents.py [FOLDER]
+"""Looks whether what the documents name is in the tree, and what the program has in a document: scripts/documents.py [FOLDER]
 
-README.md, CONTRIBUTING.md and docs/*.md are read. Looked up are
-
-    links             their file and their heading
-    paths             from the top, from crates/, from a crate's folder, or from the document; NAME.antt, NAME.rt and NAME.py anywhere, with .in behind them too
-    crates            cb_NAME and bench_NAME
-    `Type::name`      a function of an impl or a trait, or a variant of the type
-    `some_name()`     words with an underscore, a capital letter inside or brackets: in a source, a definition, a proof or a script
-    definitions       in GUARANTEES.md, `NAME`, which a file of specs/ must have
-    wrong bodies      in GUARANTEES.md, NAME of an edit in must-fail/ or attacks/ of a crate
-
-In the other direction what the program has must stand in the code of some document: each crate of crates.txt (in
-ARCHITECTURE.md), and the words that SPOKEN finds: commands, options, lines of operators and scripts, replies, methods of
-JSON-RPC; and each exit status in PROTOCOL.md.
-
-The sizes: README.md, in lines and bytes; all docs/*.md together, with nothing else of docs/ (pictures) and of the top. It prints
-what is wrong. The status is 0 where nothing is. FOLDER is the repository to look at, this one where none is named.
+README.md, CONTRIBUTING.md and docs/*.md are read. Looked up are links with their headings; paths from the top, from crates/, from a crate's
+folder or from the document; crates; in code `Type::name`, `some_name()` and other words with an underscore, a capital letter inside or
+brackets; in GUARANTEES.md definitions, which a file of specs/ must have, and wrong bodies. In the other direction each crate of crates.txt
+has to stand in ARCHITECTURE.md, what SPOKEN finds (commands, options, lines, replies, methods of JSON-RPC) in the code of some document,
+and each exit status in PROTOCOL.md. README.md and docs/*.md have their sizes. The status is 0 where nothing is wrong. FOLDER is the
+repository to look at.
 """
 
 import re
 import sys
 from pathlib import Path
+
+from repository import ROOT, Repository
+from sources import BLOCKS, STEP, TYPES, head_of, impl_names, items, members
 
 # the greatest size of a document, and of all of docs/; of README also its lines
 MOST_BYTES, ALL_BYTES, README_BYTES, README_LINES = 40_960, 163_840, 8_192, 110
@@ -32,8 +25,8 @@ CODES = r'codes "([^"]*)"'
 SPOKEN = [
     ("cb_command/src/*.rt", r'Command::new\(alloc, "(\w+)"\)', ""),
     ("cb_command/src/*.rt", r'\.long\("([\w-]+)"\)', "--"),
-    ("cb_net_words/src/*.rt", r'Command::new\(alloc, "(\w+)"\)', ""),
-    ("cb_net_words/src/*.rt", r'(?:_arg\(\s*alloc,\s*|\.long\()"([\w-]+)"', "--"),
+    ("cb_net_plan/src/options.rt", r'Command::new\(alloc, "(\w+)"\)', ""),
+    ("cb_net_plan/src/options.rt", r'(?:_arg\(\s*alloc,\s*|\.long\()"([\w-]+)"', "--"),
     ("cb_control/specs/OrderLine.antt", CODES, ""),
     ("cb_control/specs/ScriptLine.antt", CODES, ""),
     ("cb_control/specs/ReplyText.antt", CODES, ""),
@@ -62,9 +55,8 @@ PATH = re.compile(rf"(?<![\w/.*-])(?:(?:\.{{1,2}}/)*(?:[\w*.-]+/)*[\w*.-]*\w{END
 CRATE = re.compile(r"(?<![\w/.-])((?:cb|bench)_[a-z0-9_]+)(?![\w*])")
 MEMBER = re.compile(r"^([A-Z]\w*)(?:<[^>]*>)?::(\w+)")
 WORD = re.compile(r"^[A-Za-z_]\w*$")
-OWNER = re.compile(r"^\s*(?:pub )?(?:unsafe )?(?:impl\b(?:<.*?>)?\s+(?:(?P<of>[\w:]+)(?:<.*>)?\s+for\s+)?(?P<type>[&\w:]+)|(?:trait|enum|struct)\s+(?P<named>\w+))")
-FUNCTION = re.compile(r"\b(?:fn|ghost|law) (\w+)")
-ITEM = re.compile(r"^\s*(?:pub(?:\([^)]*\))? )?(?:const )?fn (\w+)|^\s*(?:ghost )?(\w+)\s*(?:[({,:=]|$)")
+FIELD = re.compile(rf"^{STEP}(?:pub(?:\([^)]*\))? )?(?:ghost )?(\w+)\s*(?:[({{,:=]|$)")
+NAMES = re.compile(r"[A-Za-z_]\w*")
 
 
 def kind_of(file):
@@ -76,46 +68,38 @@ class Tree:
     """The names that the repository has."""
 
     def __init__(self, root):
-        self.root = root
-        # crates that stand apart have .in behind the names of their sources
+        self.root, repository = root, Repository(root)
+        self.crates = {*repository.crates, *repository.apart}
         self.homes = [root / "crates", root / "bench" / "programs"]
-        self.crates = {it.name for home in self.homes for it in home.iterdir() if it.is_dir()}
         folders = ("crates", "tests", "bench", "scripts", "docs", "runs", "examples", "include", "bindings")
-        self.files = [it for folder in folders for it in (root / folder).rglob("*") if "out" not in it.relative_to(root).parts]
-        self.by_name = {}
-        for file in self.files:
-            self.by_name.setdefault(file.name, []).append(file)
-        self.words, self.members, self.of_file = set(), {}, {}
-        for file in self.files:
-            if kind_of(file) in (".rt", ".antt", ".py", ".h") and "/attacks/" not in str(file) and file.name != Path(__file__).name:
-                text = file.read_text(encoding="utf-8")
-                words = set(re.findall(r"[A-Za-z_]\w*", text))
-                self.words |= words
-                self.of_file[file] = words
-                if kind_of(file) == ".rt":
-                    self.read_members(text)
+        files = [it for folder in folders for it in (root / folder).rglob("*") if "out" not in it.relative_to(root).parts]
+        self.files = {it.name for it in files}
+        self.folders = {part for file in files for part in file.relative_to(root).parent.parts}
+        self.words = self.crates | FOREIGN
         for name in ("test", "build", "attack", "crates.txt"):
-            self.words |= set(re.findall(r"[A-Za-z_]\w*", (root / name).read_text(encoding="utf-8")))
-        self.folders = {part for file in self.files for part in file.relative_to(root).parent.parts}
-        self.functions = {name for file in self.of_file if kind_of(file) == ".rt" for name in FUNCTION.findall(file.read_text(encoding="utf-8"))}
-        self.definitions = {name for file, words in self.of_file.items() if "/specs/" in str(file) for name in words}
-        self.functions |= self.definitions
-        self.names = {it.name.split(".")[0] for it in self.files if kind_of(it) in (".run", ".hex", ".bin", ".py", ".rt", ".antt")}
+            self.words |= set(NAMES.findall((root / name).read_text(encoding="utf-8")))
+        self.words |= {it.name.split(".")[0] for it in files if kind_of(it) in (".run", ".hex", ".bin", ".py", ".rt", ".antt")}
+        self.definitions, self.members = set(), {}
+        for file in (it for it in files if kind_of(it) in (".rt", ".antt", ".py", ".h") and it.name != Path(__file__).name):
+            text = file.read_text(encoding="utf-8")
+            self.words |= set(NAMES.findall(text))
+            if "specs" in file.parts:
+                self.definitions |= set(NAMES.findall(text))
+            if kind_of(file) == ".rt":
+                self.read_members(text.split("\n"))
 
-    def read_members(self, text):
+    def read_members(self, lines):
         """Notes what each impl, trait, enum and struct of a source has."""
-        owners = ()
-        # an impl whose parameters take lines of their own
-        text = re.sub(r"^impl<\n(?: .*\n)+> ", "impl ", text, flags=re.M)
-        for line in text.splitlines():
-            indent = len(line) - len(line.lstrip())
-            if indent == 0 and (found := OWNER.match(line)):
-                owners = tuple(it.split("::")[-1].lstrip("&") for it in (found["of"], found["type"], found["named"]) if it)
-            elif indent == 4 and owners and (found := ITEM.match(line)):
-                for owner in owners:
-                    self.members.setdefault(owner, set()).add(found[1] or found[2])
-            elif line == "}":
-                owners = ()
+        for item in items(lines):
+            if item.kind in BLOCKS:
+                owners = [item.name] if item.kind == "trait" else filter(None, impl_names(head_of(lines, item)))
+                found = {it.name for it in members(lines, item)}
+            elif item.kind in TYPES:
+                owners, found = [item.name], {it[1] for it in map(FIELD.match, lines[item.first : item.end]) if it}
+            else:
+                continue
+            for owner in owners:
+                self.members.setdefault(owner, set()).update(found)
 
     def has_path(self, path, document):
         """Whether a path leads somewhere from the top, from crates/, from a crate, or from the document's folder."""
@@ -123,29 +107,17 @@ class Tree:
         if BUILT in path or not bare.strip("./*"):
             return True
         bases = [self.root, *self.homes, document.parent, self.root / "bench", self.root / "runs", self.root / "runs" / "cbrelay"]
-        if "*" in bare:
-            return any(next(base.glob(bare.rstrip("/")), None) for base in bases)
-        if any((base / bare).exists() for base in bases):
+        if any(next(base.glob(bare.rstrip("/")), None) for base in bases):
             return True
         parts = bare.rstrip("/").split("/")
-        if "/" not in bare:
-            return bare in self.by_name
+        if "/" not in bare or "*" in bare:
+            return bare in self.files
         if len(parts) == 1:
             return parts[0] in self.folders or not parts[0][0].isalpha()
         if "." not in parts[-1] and parts[0] not in self.folders and not CRATE.match(parts[0]):
             # words with a stroke between them, as MB/s
             return True
-        if (self.root / "runs" / f"{bare}.run").exists():
-            return True
-        return any(next(home.glob("*/" + "/".join(parts)), None) for home in self.homes)
-
-    def has_word(self, word):
-        """Whether a name is one of the tree's, or foreign."""
-        return word in self.words or word in self.names or word in self.crates or word in FOREIGN
-
-    def has_member(self, owner, name):
-        """Whether a type or a trait has a function or a variant."""
-        return name in self.members.get(owner, ()) or f"{owner}::{name}" in FOREIGN
+        return (self.root / "runs" / f"{bare}.run").exists() or any(next(home.glob("*/" + "/".join(parts)), None) for home in self.homes)
 
 
 def is_placeholder(path):
@@ -191,30 +163,18 @@ class Look:
         """What stands between backticks: a name, a call, or words that are looked at one by one."""
         if found := MEMBER.match(span):
             owner, name = found.groups()
-            self.expect(self.tree.has_member(owner, name), place, f"there is no `{owner}::{name}`")
+            self.expect(name in self.tree.members.get(owner, ()), place, f"there is no `{owner}::{name}`")
             return
         bare = span.removesuffix("()").removesuffix("!")
         if WORD.match(bare) and ("_" in bare or re.search(r"[a-z][A-Z]", bare) or span != bare):
-            self.expect(self.tree.has_word(bare), place, f"there is no `{bare}`")
+            self.expect(bare in self.tree.words, place, f"there is no `{bare}`")
 
-    def definitions(self, cell, place):
-        """Of the definitions of GUARANTEES.md: each stands in a file of specs/."""
-        for name in CODE.findall(cell):
+    def promise(self, line, place):
+        """A row of GUARANTEES.md: each definition stands in a file of specs/, and each wrong body is an edit of a crate."""
+        _, _, definitions, refused = (it.strip() for it in line.strip()[1:-1].split("|"))
+        for name in CODE.findall(definitions):
             self.expect(name in self.tree.definitions, place, f"no file of specs/ has `{name}`")
-
-    def functions(self, cell, place):
-        """Of the functions of GUARANTEES.md: each is one of the sources, and each clause in parentheses is a word of the tree."""
-        for name in CODE.findall(cell):
-            if WORD.match(name):
-                self.expect(name in self.tree.functions or name[0].isupper() and self.tree.has_word(name), place, f"there is no function `{name}`")
-        for clauses in re.findall(r"\(([a-z_, ]+)\)", cell):
-            for clause in clauses.split(", "):
-                if WORD.match(clause):
-                    self.expect(self.tree.has_word(clause), place, f"there is no clause {clause}")
-
-    def wrong_bodies(self, cell, place):
-        """Of the wrong bodies of GUARANTEES.md: each is an edit of a crate."""
-        for name in filter(None, cell.strip().split(", ")):
+        for name in filter(None, refused.split(", ")):
             edits = [it for room in ("attacks", "must-fail") for it in (self.root / "crates").glob(f"*/{room}/{name}.edit")]
             self.expect(edits or name == "refused", place, f"there is no wrong body {name}")
 
@@ -230,46 +190,38 @@ class Look:
                 if not is_placeholder(path):
                     self.expect(self.tree.has_path(path, document), place, f"there is no {path}")
             for crate in CRATE.findall(PATH.sub(" ", plain)):
-                self.expect(self.tree.has_word(crate), place, f"there is no crate {crate}")
+                self.expect(crate in self.tree.words, place, f"there is no crate {crate}")
             if not FENCED.match(line):
                 for span in CODE.findall(plain):
                     self.code(span, place)
             if document.name == PROMISES and line.startswith("| ") and line.count("|") == 5:
-                _, calls, definitions, refused = (it.strip() for it in line.strip()[1:-1].split("|"))
-                self.functions(calls, place)
-                self.definitions(definitions, place)
-                self.wrong_bodies(refused, place)
+                self.promise(line, place)
 
     def program(self):
         """What the program has stands in a document."""
         texts = {it.name: it.read_text(encoding="utf-8") for it in self.documents}
-        for line in (self.root / "crates.txt").read_text(encoding="utf-8").splitlines():
-            # a static library has a word behind its name
-            crate = line.partition(":")[0].partition(" ")[0]
-            if not line.startswith("#"):
-                self.expect(re.search(rf"\b{crate}\b", texts["ARCHITECTURE.md"]), "ARCHITECTURE.md", f"it lacks the crate {crate}")
+        for crate in Repository(self.root).crates:
+            self.expect(re.search(rf"\b{crate}\b", texts["ARCHITECTURE.md"]), "ARCHITECTURE.md", f"it lacks the crate {crate}")
         lines = [line for text in texts.values() for line in text.splitlines()]
         code = "\n".join(part for line in lines for part in ([line] if FENCED.match(line) else CODE.findall(line)))
         for files, form, before in SPOKEN:
             for file in (self.root / "crates").glob(files):
                 for found in re.findall(form, file.read_text(encoding="utf-8")):
-                    for word in [found] if before else PRINTED.findall(found.replace("\\n", "")):
-                        self.expect(re.search(rf"(?<![\w-]){re.escape(before + word)}(?![\w-])", code), file.name, f"no document has `{before}{word}`")
+                    for word in [before + found] if before else PRINTED.findall(found.replace("\\n", "")):
+                        self.expect(re.search(rf"(?<![\w-]){re.escape(word)}(?![\w-])", code), file.name, f"no document has `{word}`")
         told = next((line for line in lines if line.startswith("- **Status**")), "")
-        for status in STATUS.findall((self.root / "crates/cb_run/specs/Ending.antt").read_text(encoding="utf-8")):
+        for status in STATUS.findall((self.root / "crates/cb_control/specs/Ending.antt").read_text(encoding="utf-8")):
             self.expect(re.search(rf"[:;] {status}\b", told), "PROTOCOL.md", f"no status {status} is told")
 
     def sizes(self):
-        """The documents are within their sizes."""
-        sizes = {it: it.stat().st_size for it in self.documents}
-        for document, size in sizes.items():
-            self.expect(size <= MOST_BYTES, document.name, f"{size:,} bytes, more than {MOST_BYTES:,}")
-        total = sum(size for document, size in sizes.items() if document.parent.name == "docs")
-        self.expect(total <= ALL_BYTES, "docs/*.md", f"{total:,} bytes, more than {ALL_BYTES:,}")
-        readme = self.documents[0]
-        lines = len(readme.read_text(encoding="utf-8").splitlines())
-        self.expect(sizes[readme] <= README_BYTES, readme.name, f"{sizes[readme]:,} bytes, more than {README_BYTES:,}")
-        self.expect(lines <= README_LINES, readme.name, f"{lines} lines, more than {README_LINES}")
+        """The documents are within their sizes. Returns the bytes of those of docs/."""
+        sizes, readme = {it: it.stat().st_size for it in self.documents}, self.documents[0]
+        total = sum(size for document, size in sizes.items() if document.parent == self.root / "docs")
+        limits = [(it.name, size, MOST_BYTES, "bytes") for it, size in sizes.items()] + [("docs/*.md", total, ALL_BYTES, "bytes")]
+        limits.append(("README.md", sizes[readme], README_BYTES, "bytes"))
+        limits.append(("README.md", len(readme.read_text(encoding="utf-8").splitlines()), README_LINES, "lines"))
+        for name, size, most, unit in limits:
+            self.expect(size <= most, name, f"{size:,} {unit}, more than {most:,}")
         return total
 
     def run(self):
@@ -278,11 +230,11 @@ class Look:
             self.document(document)
         self.program()
         total = self.sizes()
-        for words in self.wrong:
-            print(words)
+        print(*self.wrong, sep="\n", end="\n" * bool(self.wrong))
         print(f"documents: {self.looked} names and sizes looked up, {len(self.wrong)} wrong; {total:,} bytes in docs/")
         return 1 if self.wrong else 0
 
 
 if __name__ == "__main__":
-    sys.exit(Look(Path(sys.argv[1] if len(sys.argv) > 1 else Path(__file__).parent.parent).resolve()).run())
+    sys.dont_write_bytecode = True
+    sys.exit(Look(Path(sys.argv[1] if len(sys.argv) > 1 else ROOT).resolve()).run())

@@ -1,47 +1,68 @@
 #!/usr/bin/env python3
-"""Shows three nodes that relay blocks, without a proof: scripts/first.py [SCRIPT]
+"""Runs cbrelay without a proof: scripts/first.py [COMMAND [WORDS ..]]
 
-SCRIPT is a script as `cbrelay run` plays it, examples/network.txt where none is named. bench/programs/bench_first, which plays it, and all
-that it stands on are compiled anew, with checks for bad accesses and overflows: a minute or two, and 5 GB of memory. The status is that of
-`rt try`, which is the program's own where that ends; 7 where the nodes of examples/network.txt don't end as is stored beside it.
+Without words three nodes in a line play examples/network.txt, and get blocks and transactions. With words they are those of cbrelay, whose
+command runs here, on this input and output: `scripts/first.py node` is a node, `scripts/first.py help` lists the others.
+
+What runs is compiled with checks for bad accesses and overflows, and kept below out/unproved, so that only the first call, or one after a
+change of the sources, takes its minutes and its memory: README.md tells them. The status is the program's own; 7 where the nodes of
+examples/network.txt don't end as is stored beside it; 8 where the program can't be compiled.
 """
 
+import os
+import re
+import signal
 import subprocess
 import sys
-from pathlib import Path
 
 sys.dont_write_bytecode = True
-from apart import laid_out, with_apart_below  # noqa: E402
-from repository import RT, Repository  # noqa: E402
+from repository import ROOT  # noqa: E402
+from unproved import Uncompiled, program  # noqa: E402
 
-ROOT = Path(__file__).resolve().parent.parent
-PROGRAM = "bench_first"
-# the interpreter can't run threads, so it leaves at once
-WORDS = [*RT, "try", "--steps", "1"]
 EXAMPLE = ROOT / "examples" / "network.txt"
+COMMAND = re.compile(r'Command::new\(alloc, "(\w+)"\)')
+
+
+def is_word(word):
+    """Whether cbrelay has this command or option, which is known before it is compiled."""
+    sources = [*ROOT.glob("crates/cb_command/src/*.rt"), *ROOT.glob("crates/cb_net_plan/src/*.rt")]
+    return word.startswith("-") or word in {"help", *(name for it in sources for name in COMMAND.findall(it.read_text(encoding="utf-8")))}
+
+
+def tell(words):
+    print(f"first: {words}", file=sys.stderr, flush=True)
+
+
+def play_network():
+    """Plays the example, and returns a status."""
+    with EXAMPLE.open("rb") as script:
+        ran = subprocess.run([program("bench_first", tell)], stdin=script, capture_output=True, check=False)
+    sys.stdout.buffer.write(ran.stdout)
+    sys.stderr.buffer.write(ran.stderr)
+    # the lines of connections count messages, which depends on when ticks come
+    ends = b"".join(line for line in ran.stdout.splitlines(True) if b" height " in line)
+    if not ran.returncode and ends != EXAMPLE.with_name("network.txt.stdout").read_bytes():
+        tell("that isn't what examples/network.txt.stdout has")
+        return 7
+    return ran.returncode
 
 
 def main(words):
-    if len(words) > 1 or words and words[0].startswith("-"):
-        print(__doc__.strip(), file=sys.stderr)
+    if words and words[0] in ("-h", "--help"):
+        print(__doc__.strip())
+        return 0
+    if words and not is_word(words[0]):
+        tell(f"cbrelay has no command {words[0]}: --help tells how this is called")
         return 2
-    script = Path(words[0]) if words else EXAMPLE
-    repository = Repository(ROOT)
-    print("first: compiling three nodes, without a proof: a minute or two", file=sys.stderr, flush=True)
-    with laid_out(repository, *with_apart_below(repository, [PROGRAM])) as top, script.open("rb") as given:
-        ran = subprocess.run(WORDS, cwd=top / "crates" / PROGRAM, stdin=given, stdout=subprocess.PIPE, stderr=subprocess.PIPE)
-    sys.stdout.buffer.write(ran.stdout)
-    sys.stdout.flush()
-    if ran.returncode or not ran.stdout:
-        sys.stderr.buffer.write(ran.stderr)
-    if ran.returncode:
-        return ran.returncode
-    # the lines of connections count messages, which depends on when ticks come
-    ends = b"".join(line for line in ran.stdout.splitlines(True) if b" height " in line)
-    if not words and ends != EXAMPLE.with_name("network.txt.stdout").read_bytes():
-        print("first: that isn't what examples/network.txt.stdout has", file=sys.stderr)
-        return 7
-    return 0
+    try:
+        if not words:
+            return play_network()
+        os.execv(program("cbrelay", tell), ["cbrelay", *words])
+    except Uncompiled as why:
+        tell(why)
+        return 8
+    except KeyboardInterrupt:
+        return 128 + signal.SIGINT
 
 
 if __name__ == "__main__":

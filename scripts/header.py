@@ -1,13 +1,10 @@
 #!/usr/bin/env python3
-"""Compares the C library's header with the functions that crate cb_c exports, and with the bindings: scripts/header.py [--selftest]
+"""Compares the C library's header with what crate cb_c exports, and with the bindings: scripts/header.py [--selftest]
 
-The prover doesn't read the header, so this does: each function that include/cbrelay.h declares has to be one `extern "C" fn` of
-crates/cb_c/src, with the same parameters, in the same order, of the same names and types, and the same return type; and the other
-way round. A slice is a pointer and, behind it, a length; a reference is a pointer; a `Global` takes no parameter. Structs with
-`#[repr(C)]` are compared field by field, and constants by their values; the header's faults with those of docs/PROTOCOL.md. What
-bindings/rust/src/sys.rs and bindings/python/cbrelay.py declare has to be the header's too. It prints what differs. The status is 0
-where nothing does.
-
+The prover doesn't read the header, so this does: each function of include/cbrelay.h has to be one `extern "C" fn` of crates/cb_c/src, with
+the same parameters by order, name and type, and the same return type; and the other way round. A slice is a pointer and a length behind it,
+a reference a pointer, a `Global` nothing. Structs with `#[repr(C)]` are compared field by field, constants by value, faults with those of
+docs/PROTOCOL.md. What both bindings declare has to be the header's too. It prints what differs, and the status is 0 where nothing does.
 With --selftest it is first tried on a small header with one mistake of each kind, each of which it has to tell.
 """
 
@@ -15,22 +12,17 @@ import ctypes
 import importlib
 import re
 import sys
-from dataclasses import dataclass
+from dataclasses import dataclass, field
 from pathlib import Path
 
 ROOT = Path(__file__).resolve().parent.parent
-HEADER, SOURCES = ROOT / "include" / "cbrelay.h", ROOT / "crates" / "cb_c" / "src"
-# the crates below it whose structs it exports
-SHAPES = [ROOT / "crates" / it / "src" for it in ("cb_bytes", "cb_relay_bytes")]
-BINDINGS, PROTOCOL = ROOT / "bindings", ROOT / "docs" / "PROTOCOL.md"
-# how the names of the header begin; what stands before a struct's name in Rattle
-PREFIX, STRUCT_PREFIX = "cbrelay_", "Cb"
-NUMBERS = {
-    **{f"{sign}{bits}": f"{'u' if sign == 'u' else ''}int{bits}_t" for sign in "ui" for bits in (8, 16, 32, 64)},
-    "usize": "size_t",
-    "isize": "ptrdiff_t",
-    "bool": "bool",
-}
+HEADER, PROTOCOL, BINDINGS = ROOT / "include" / "cbrelay.h", ROOT / "docs" / "PROTOCOL.md", ROOT / "bindings"
+# where the functions stand, and where the structs
+SOURCES, SHAPES = ROOT / "crates" / "cb_c" / "src", ROOT / "crates" / "cb_relay" / "src"
+# how the names of the header begin
+PREFIX = "cbrelay_"
+NUMBERS = {f"{sign}{bits}": f"{'u' if sign == 'u' else ''}int{bits}_t" for sign in "ui" for bits in (8, 16, 32, 64)}
+NUMBERS |= {"usize": "size_t", "isize": "ptrdiff_t", "bool": "bool"}
 # the first and the last fault that the header lists
 HEADER_FAULTS = ("CBRELAY_MEMORY", "CBRELAY_WRONG_COUNT")
 # a slice's length in C, until it is known what the header calls it
@@ -38,65 +30,36 @@ LENGTH = " of "
 
 COMMENT = re.compile(r"/\*.*?\*/|//[^\n]*", re.S)
 DIRECTIVE = re.compile(r"^[ \t]*#(?:[^\n\\]|\\\n)*", re.M)
-DEFINE = re.compile(r"^[ \t]*#[ \t]*define[ \t]+(\w+)[ \t]+\(?(?:\(\w+\))?(0[xX][0-9a-fA-F]+|\d+)[uUlL]*\)?[ \t]*$", re.M)
-EXPORT = re.compile(r'\bpub\s+(?:unsafe\s+)?extern\s+"C"\s+fn\s+(\w+)\s*(?:<[^>]*>)?\s*\(')
+DEFINE = re.compile(r"^[ \t]*#[ \t]*define[ \t]+(\w+)[ \t]+(0x[0-9a-fA-F]+|\d+)u?[ \t]*$", re.M)
+# of the header: a struct, another name of a type, a function
+DECLARED = re.compile(
+    r"typedef\s+struct(?:\s+\w+)?\s*\{(?P<fields>[^}]*)\}\s*(?P<struct>\w+)\s*;|typedef\s+(?P<of>\w+)\s+(?P<alias>\w+)\s*;"
+    r"|(?P<returned>\w[\w\s*]*?)\b(?P<function>\w+)\s*\((?P<parameters>[^()]*)\)\s*;"
+)
 STRUCT = re.compile(r"#\[repr\(C\)\](?:\s*#\[[^\]]*\])*\s*pub\s+struct\s+(\w+)\s*\{([^}]*)\}")
-CONSTANT = re.compile(r"\bconst\s+(\w+)\s*:\s*(?:u|i)(?:8|16|32|64|size)\s*=\s*(0x[0-9a-fA-F_]+|[\d_]+)\s*;")
+# a function that the sources export, and one that sys.rs declares
+SIGNATURE = r"fn\s+(\w+)\s*(?:<[^>]*>)?\s*\(([^)]*)\)\s*(?:->\s*(\w+))?"
+EXPORTED, DECLARED_IN_RUST = re.compile(rf'\bpub\s+(?:unsafe\s+)?extern\s+"C"\s+{SIGNATURE}'), re.compile(rf"\bpub\s+{SIGNATURE}")
+CONSTANT = re.compile(r"\bconst\s+(\w+)\s*:\s*[ui]\w+\s*=\s*(0x[0-9a-fA-F_]+|[\d_]+)\s*;")
+REFERENCE = re.compile(r"(&|\*const|\*mut)\s*(?:'\w+\s+)?(mut\s+)?(\[?)(\w+)\]?")
 
 
 class Unread(Exception):
     """What this script doesn't know how to read."""
 
 
-@dataclass(frozen=True)
-class Named:
-    """A parameter or a field: its type as C has it, and its name."""
-
-    type: str
-    name: str
-
-    def __str__(self):
-        return f"{self.type} {self.name}"
-
-
-@dataclass(frozen=True)
-class Function:
-    """A function's parameters and what it returns."""
-
-    parameters: tuple
-    returned: str
-
-    def __str__(self):
-        return f"{self.returned} ({', '.join(map(str, self.parameters)) or 'void'})"
-
-
 @dataclass
 class Interface:
-    """What a header declares, or what the sources export, by name."""
+    """What a file declares, by name: of a function what it returns and its parameters, of a struct its fields, each a type and a name."""
 
-    functions: dict
-    structs: dict
-    constants: dict
+    functions: dict = field(default_factory=dict)
+    structs: dict = field(default_factory=dict)
+    constants: dict = field(default_factory=dict)
 
 
 def parted(text, sign=","):
-    """The parts of a text between signs that stand in no bracket."""
-    parts, depth, start = [], 0, 0
-    for place, it in enumerate(text):
-        depth += (it in "([{<") - (it in ")]}" or (it == ">" and text[place - 1] != "-"))
-        if it == sign and depth == 0:
-            parts.append(text[start:place])
-            start = place + 1
-    return [it.strip() for it in (*parts, text[start:]) if it.strip()]
-
-
-def closing(text, place):
-    """The place of the bracket that closes the one in front of this place."""
-    depth = 1
-    while depth:
-        depth += {"(": 1, ")": -1}.get(text[place], 0)
-        place += 1
-    return place - 1
+    """The parts of a text between these signs."""
+    return [it.strip() for it in text.split(sign) if it.strip()]
 
 
 # ---- the header
@@ -105,190 +68,119 @@ def closing(text, place):
 def of_header(text):
     """What a header declares."""
     text = COMMENT.sub(" ", text)
-    constants = {name: int(value, 0) for name, value in DEFINE.findall(text)}
-    text = DIRECTIVE.sub("", text)
-    text = re.sub(r'\bextern\s+"C"\s*\{', "", text)
-    found, aliases = Interface({}, {}, constants), {}
-    for statement in statements(text):
-        if words := re.fullmatch(r"typedef\s+struct(?:\s+\w+)?\s*\{(.*)\}\s*(\w+)", statement, re.S):
-            found.structs[words[2]] = tuple(field for it in parted(words[1], ";") for field in c_fields(it, aliases))
-        elif words := re.fullmatch(r"(?:typedef\s+)?enum(?:\s+\w+)?\s*\{(.*)\}\s*(\w*)", statement, re.S):
-            constants.update(enumerated(words[1]))
-            if words[2]:
-                aliases[words[2]] = "enum"
-        elif words := re.fullmatch(r"typedef\s+(\w+)\s+(\w+)", statement):
-            aliases[words[2]] = aliases.get(words[1], words[1])
-        elif words := re.fullmatch(r"(.*?[\s*])(\w+)\s*\((.*)\)", statement, re.S):
-            listed = [] if words[3].strip() in ("", "void") else parted(words[3])
-            found.functions[words[2]] = Function(tuple(c_named(it, aliases) for it in listed), c_type(words[1], aliases))
-        else:
-            raise Unread(f"the header's {' '.join(statement.split())[:80]}")
-    return found
+    found, aliases = Interface(constants={name: int(value, 0) for name, value in DEFINE.findall(text)}), {}
 
-
-def statements(text):
-    """What stands before each semicolon outside of brackets; a bracket that nothing opened closes `extern "C"`."""
-    found, depth, start = [], 0, 0
-    for place, it in enumerate(text):
-        if it == "}" and depth == 0:
-            text = text[:place] + " " + text[place + 1 :]
-        else:
-            depth += (it in "({") - (it in ")}")
-        if it == ";" and depth == 0:
-            found.append(text[start:place].strip())
-            start = place + 1
-    rest = text[start:].strip()
-    return [it for it in found if it] + ([rest] if rest else [])
-
-
-def enumerated(text):
-    """The constants of an enum."""
-    found, following = {}, 0
-    for it in parted(text):
-        name, _, value = (part.strip() for part in it.partition("="))
-        following = int(value.rstrip("uUlL"), 0) if value else following
-        found[name] = following
-        following += 1
-    return found
-
-
-def c_type(text, aliases):
-    """A type with its aliases resolved, as `const uint8_t *`."""
-    words = re.findall(r"\w+|\*", text)
-    stars = words.count("*")
-    bare = [it for it in words if it not in ("*", "const", "struct", "extern", "restrict")]
-    if len(bare) != 1 or stars > 1:
-        raise Unread(f"the header's type {text.strip()}")
-    return ("const " if "const" in words else "") + aliases.get(bare[0], bare[0]) + (" *" if stars else "")
-
-
-def c_named(text, aliases):
-    """A parameter; one that is written as an array is a pointer."""
-    words = re.fullmatch(r"(.*?[\s*])(\w+)\s*(\[\w*\])?", text.strip(), re.S)
-    if not words:
-        raise Unread(f"the header's parameter {text.strip()}")
-    return Named(c_type(words[1] + ("*" if words[3] else ""), aliases), words[2])
-
-
-def c_fields(text, aliases):
-    """The fields of one line of a struct, as `uint64_t k0, k1`."""
-    first, *others = parted(text)
-    base = re.match(r"\s*(?:const\s+)?\w+\s", first)[0]
-    found = []
-    for it in (first[len(base) :], *others):
-        words = re.fullmatch(r"(\w+)\s*((?:\[\w+\])*)", it.strip())
+    def named(it):
+        """A parameter or a field; the size of an array belongs to its type."""
+        words = re.fullmatch(r"(.*?[\s*])(\w+)\s*(\[\w+\])?", it, re.S)
         if not words:
-            raise Unread(f"the header's field {it.strip()}")
-        found.append(Named(c_type(base, aliases) + words[2], words[1]))
+            raise Unread(f"the header's {it}")
+        return c_type(words[1]) + (words[3] or ""), words[2]
+
+    def c_type(it):
+        return " ".join(aliases.get(word, word) for word in re.findall(r"\w+|\*", it))
+
+    def declare(it):
+        if it["struct"]:
+            found.structs[it["struct"]] = "struct", tuple(named(one) for one in parted(it["fields"], ";"))
+        elif it["alias"]:
+            aliases[it["alias"]] = aliases.get(it["of"], it["of"])
+        else:
+            listed = [] if it["parameters"].strip() == "void" else parted(it["parameters"])
+            found.functions[it["function"]] = c_type(it["returned"]), tuple(map(named, listed))
+        return ""
+
+    text = re.sub(r'\bextern\s+"C"\s*\{', "", DIRECTIVE.sub("", text))
+    if left := DECLARED.sub(declare, text).replace("}", "", 1).split():
+        raise Unread(f"the header's {' '.join(left)[:80]}")
     return found
 
 
-# ---- the sources
+# ---- the sources, and the binding for Rust
 
 
-def of_sources(texts):
-    """What the sources export, as C has to declare it."""
-    found = Interface({}, {}, {})
-    for text in texts:
-        text = COMMENT.sub(" ", text)
-        found.constants.update({name: int(value.replace("_", ""), 0) for name, value in CONSTANT.findall(text)})
-        for name, fields in STRUCT.findall(text):
-            found.structs[c_name(name)] = tuple(exported_field(it) for it in parted(fields))
-        for export in EXPORT.finditer(text):
-            end = closing(text, export.end())
-            returned = re.match(r"\s*->\s*([^{]*?)\s*(?:\brequires\b|\bensures\b|\{)", text[end + 1 :])
-            parameters = [it for part in parted(text[export.end() : end]) for it in exported_parameter(part)]
-            found.functions[export[1]] = Function(tuple(parameters), number(returned[1]) if returned else "void")
+def of_rust(texts, function=EXPORTED):
+    """What sources export, or declare, as C has to declare it."""
+    found = Interface()
+    for text in (COMMENT.sub(" ", it) for it in texts):
+        found.constants |= {name: int(value.replace("_", ""), 0) for name, value in CONSTANT.findall(text)}
+        found.structs |= {c_name(name): ("struct", tuple(map(field_of, parted(fields)))) for name, fields in STRUCT.findall(text)}
+        for name, parameters, returned in function.findall(text):
+            listed = tuple(it for one in parted(parameters) for it in parameters_of(one))
+            found.functions[name] = number(returned) if returned else "void", listed
     return found
 
 
 def c_name(name):
     """A struct's name in C: `CbTxParts` is `cbrelay_tx_parts`."""
-    words = re.findall(r"[A-Z][a-z0-9]*", name.removeprefix(STRUCT_PREFIX))
-    return PREFIX + "_".join(words).lower()
+    return PREFIX + "_".join(re.findall(r"[A-Z][a-z0-9]*", name.removeprefix("Cb"))).lower()
 
 
 def number(name):
     """A number's or a struct's type in C."""
     name = name.strip()
-    if name in NUMBERS:
-        return NUMBERS[name]
-    if re.fullmatch(r"[A-Z]\w*", name):
-        return c_name(name)
-    raise Unread(f"the sources' type {name}")
+    if name not in NUMBERS and not re.fullmatch(r"[A-Z]\w*", name):
+        raise Unread(f"the sources' type {name}")
+    return NUMBERS.get(name) or c_name(name)
 
 
-def exported_field(text):
-    name, _, kind = text.removeprefix("pub ").partition(":")
-    array = re.fullmatch(r"\[\s*(\w+)\s*;\s*(\w+)\s*\]", kind.strip())
-    return Named(f"{number(array[1])}[{array[2]}]" if array else number(kind), name.strip().removeprefix("r#"))
-
-
-def exported_parameter(text):
-    """What a parameter is in C: none for an allocator, two for a slice."""
+def name_and_kind(text):
+    """The name of a parameter or a field, and its type in Rust."""
     name, _, kind = text.partition(":")
-    name, kind = name.strip().removeprefix("mut ").removeprefix("r#"), kind.strip()
+    return name.strip().removeprefix("pub ").removeprefix("mut ").removeprefix("r#"), kind.strip()
+
+
+def field_of(text):
+    name, kind = name_and_kind(text)
+    array = re.fullmatch(r"\[\s*(\w+)\s*;\s*(\w+)\s*\]", kind)
+    return f"{number(array[1])}[{array[2]}]" if array else number(kind), name
+
+
+def parameters_of(text):
+    """What a parameter is in C: none for an allocator, two for a slice."""
+    name, kind = name_and_kind(text)
     if kind == "Global":
         return []
-    reference = re.fullmatch(r"&\s*(?:'\w+\s+)?(mut\s+)?(\[?)\s*(\w+)\s*\]?", kind)
+    reference = REFERENCE.fullmatch(kind)
     if not reference:
-        return [Named(number(kind), name)]
-    pointer = Named(f"{'' if reference[1] else 'const '}{number(reference[3])} *", name)
-    unit = "capacity" if reference[1] else "len" if reference[3] == "u8" else "count"
-    return [pointer, Named("size_t", f"{unit}{LENGTH}{name}")] if reference[2] else [pointer]
+        return [(number(kind), name)]
+    is_written = bool(reference[2]) or reference[1] == "*mut"
+    pointer = f"{'' if is_written else 'const '}{number(reference[4])} *", name
+    unit = "capacity" if is_written else "len" if reference[4] == "u8" else "count"
+    return [pointer, ("size_t", f"{unit}{LENGTH}{name}")] if reference[3] else [pointer]
 
 
-# ---- both
+# ---- what differs
 
 
-def alike(of_c, of_rattle):
-    """Whether two parameters are the same. The length of `txids` is `count`, `txids_count` or `txid_count`."""
-    unit, _, name = of_rattle.name.partition(LENGTH)
-    names = [unit, f"{name}_{unit}", f"{name.removesuffix('s')}_{unit}"] if name else [unit]
-    return of_c.type == of_rattle.type and of_c.name in names
+def is_alike(here, there):
+    """Whether two functions or structs are the same. The length of `txids` is `count`, `txids_count` or `txid_count`."""
+    if not here or not there or here[0] != there[0] or len(here[1]) != len(there[1]):
+        return False
+    return all(one[0] == other[0] and one[1] in names_of(other[1]) for one, other in zip(here[1], there[1]))
 
 
-def differences(header, sources):
-    """What differs between a header and the sources, in words."""
+def names_of(name):
+    """The names that a parameter may have in C."""
+    unit, _, of = name.partition(LENGTH)
+    return [unit, f"{of}_{unit}", f"{of.removesuffix('s')}_{unit}"] if of else [unit]
+
+
+def differences(header, other, where):
+    """What differs between a header and what another file declares, in words."""
     found = []
-    for name in sorted({*header.functions, *sources.functions}):
-        of_c, of_rattle = header.functions.get(name), sources.functions.get(name)
-        if not of_c or not of_rattle:
-            found.append(f"{name}: {'the header lacks it' if of_rattle else 'nothing exports it'}")
-            continue
-        same = len(of_c.parameters) == len(of_rattle.parameters) and all(map(alike, of_c.parameters, of_rattle.parameters))
-        if not same or of_c.returned != of_rattle.returned:
-            found.append(f"{name}: the header has {of_c}, the sources have {of_rattle}")
-        if not name.startswith(PREFIX):
-            found.append(f"{name}: its name doesn't begin with {PREFIX}")
-    for name in sorted({*header.structs, *sources.structs}):
-        of_c, of_rattle = (it.structs.get(name) for it in (header, sources))
-        if of_c != of_rattle:
-            told = [", ".join(map(str, it)) if it else "none" for it in (of_c, of_rattle)]
-            found.append(f"struct {name}: the header has {told[0]}, the sources have {told[1]}")
-    for name, value in sources.constants.items():
-        of_c = header.constants.get(PREFIX.upper() + name)
-        if of_c is not None and of_c != value:
-            found.append(f"{name}: the header has {of_c}, the sources have {value}")
+    for kind, word in (("functions", ""), ("structs", "struct ")):
+        here, there = getattr(header, kind), getattr(other, kind)
+        for name in sorted({*here, *there}):
+            if not is_alike(here.get(name), there.get(name)):
+                found.append(f"{word}{name}: the header has {here.get(name, 'none')}, {where} {there.get(name, 'none')}")
+            if not name.startswith(PREFIX):
+                found.append(f"{word}{name}: its name doesn't begin with {PREFIX}")
+    for name, value in other.constants.items():
+        of_c = header.constants.get(PREFIX.upper() + name, value)
+        if of_c != value:
+            found.append(f"{name}: the header has {of_c}, {where} {value}")
     return found
-
-
-def read_header():
-    return of_header(HEADER.read_text(encoding="utf-8"))
-
-
-def texts_below(folder):
-    return [it.read_text(encoding="utf-8") for it in sorted(folder.rglob("*.rt"))]
-
-
-def read_sources():
-    found = of_sources(texts_below(SOURCES))
-    for it in SHAPES:
-        found.structs.update(of_sources(texts_below(it)).structs)
-    return found
-
-
-# ---- faults and bindings
 
 
 def faults_that_differ(header, protocol):
@@ -302,27 +194,12 @@ def faults_that_differ(header, protocol):
     return [f"{it}: {PROTOCOL.name} has another number, or lacks it" for it in wrong] + ([] if told else ["the header has no faults"])
 
 
-def of_rust(text):
-    """What a file of Rust declares in `extern "C"`."""
-    text, found = COMMENT.sub(" ", text), Interface({}, {}, {})
-    for name, fields in STRUCT.findall(text):
-        found.structs[c_name(name)] = tuple(exported_field(it) for it in parted(fields))
-    for name, parameters, returned in re.findall(r"pub fn (\w+)\(([^)]*)\)\s*(?:->\s*(\w+))?\s*;", text):
-        found.functions[name] = Function(tuple(map(rust_parameter, parted(parameters))), number(returned) if returned else "void")
-    return found
-
-
-def rust_parameter(text):
-    name, _, kind = (it.strip() for it in text.partition(":"))
-    pointer = re.fullmatch(r"\*(const|mut)\s+(\w+)", kind)
-    if not pointer:
-        return Named(number(kind), name)
-    return Named(f"{'const ' if pointer[1] == 'const' else ''}{number(pointer[2])} *", name)
+# ---- the binding for Python
 
 
 def of_python(module):
     """What the binding for Python declares, where a pointer says nothing of `const`, a parameter has no name, and a size is 64 bits."""
-    found = Interface({}, {}, {})
+    found = Interface()
 
     def kind(it):
         if it is None:
@@ -334,75 +211,52 @@ def of_python(module):
         if issubclass(it, ctypes.Array):
             return f"{kind(it._type_)}[{it._length_}]"
         if issubclass(it, ctypes.Structure):
-            found.structs[it.__name__] = tuple(Named(kind(of), name) for name, of in it._fields_)
+            found.structs[it.__name__] = "struct", tuple((kind(of), name) for name, of in it._fields_)
             return it.__name__
         return f"{'u' if it(-1).value > 0 else ''}int{8 * ctypes.sizeof(it)}_t"
 
     for name, taken in module.FUNCTIONS.items():
-        parameters = [kind(it) for it in taken]
-        found.functions[PREFIX + name] = Function(tuple(Named(it, "") for it in parameters), kind(module.RETURNED.get(name, module.c_uint32)))
+        found.functions[PREFIX + name] = kind(module.RETURNED.get(name, module.c_uint32)), tuple((kind(it), "") for it in taken)
     return found
 
 
-def bare(header):
+def as_in_python(header):
     """A header as the binding for Python has it."""
-    def plain(it, name):
-        return Named(it.type.removeprefix("const ").replace("size_t", "uint64_t"), name)
 
-    functions = {name: Function(tuple(plain(it, "") for it in of.parameters), of.returned) for name, of in header.functions.items()}
-    return Interface(functions, {name: tuple(plain(it, it.name) for it in fields) for name, fields in header.structs.items()}, {})
+    def plain(declared, is_named):
+        head, listed = declared
+        return head, tuple((it.removeprefix("const ").replace("size_t", "uint64_t"), name * is_named) for it, name in listed)
+
+    functions = {name: plain(it, False) for name, it in header.functions.items()}
+    return Interface(functions, {name: plain(it, True) for name, it in header.structs.items()})
 
 
-def declared_otherwise(header, binding, name):
-    """What a binding declares otherwise than the header."""
-    found = []
-    for kind, there in (("functions", header.functions), ("structs", header.structs)):
-        here = getattr(binding, kind)
-        found += [f"{name}: {it}: {here.get(it, 'lacking')}, in the header {there.get(it, 'lacking')}" for it in sorted({*there, *here}) if there.get(it) != here.get(it)]
+# ---- the files
+
+
+def read_header():
+    return of_header(HEADER.read_text(encoding="utf-8"))
+
+
+def read_sources():
+    texts = [[it.read_text(encoding="utf-8") for it in sorted(folder.rglob("*.rt"))] for folder in (SOURCES, SHAPES)]
+    found = of_rust(texts[0])
+    found.structs |= of_rust(texts[1]).structs
     return found
 
 
-def read_bindings(header):
+def in_bindings(header):
     """What the bindings declare otherwise than the header."""
     sys.path.insert(0, str(BINDINGS / "python"))
-    module = importlib.import_module("cbrelay")
-    rust = of_rust((BINDINGS / "rust" / "src" / "sys.rs").read_text(encoding="utf-8"))
-    return declared_otherwise(header, rust, "sys.rs") + declared_otherwise(bare(header), of_python(module), "cbrelay.py")
+    python = of_python(importlib.import_module("cbrelay"))
+    rust = of_rust([(BINDINGS / "rust" / "src" / "sys.rs").read_text(encoding="utf-8")], DECLARED_IN_RUST)
+    return differences(header, rust, "sys.rs") + differences(as_in_python(header), python, "cbrelay.py")
 
 
 # ---- the test of this script
 
-SMALL_SOURCES = """
-/// A hash.
-#[repr(C)]
-#[derive(Clone, Copy)]
-pub struct CbHash { pub bytes: [u8; 32], pub mark: u32, }
-const TOO_SMALL: u32 = 65_536;
-/// Not exported: pub extern "C" fn cbrelay_none(a: u8) -> u8 {}
-#[unsafe(no_mangle)]
-pub extern "C" fn cbrelay_one(alloc: Global, bytes: &[u8], nonce: u64, hash: &mut CbHash) -> u32
-    ensures { (result ≡ 0) }
-{ 0 }
-#[unsafe(no_mangle)]
-pub extern "C" fn cbrelay_two(hash: &CbHash, out: &mut [u8], len: &mut usize) { }
-"""
-SMALL_HEADER = """
-#ifndef SMALL_H
-#include <stdint.h>
-#ifdef __cplusplus
-extern "C" {
-#endif
-typedef struct cbrelay_hash { uint8_t bytes[32]; uint32_t mark; } cbrelay_hash; /* a hash; */
-typedef uint32_t cbrelay_status;
-#define CBRELAY_TOO_SMALL 65536u
-cbrelay_status cbrelay_one(const uint8_t *bytes, size_t bytes_len, uint64_t nonce,
-                           cbrelay_hash *hash);
-void cbrelay_two(const cbrelay_hash *hash, uint8_t *out, size_t out_capacity, size_t *len);
-#ifdef __cplusplus
-}
-#endif
-#endif
-"""
+# a small header and the sources that agree with it
+SMALL = Path(__file__).resolve().with_name("header_test_data")
 # a mistake each, and the word that has to be told
 MISTAKES = [
     ("uint64_t nonce", "uint32_t nonce", "cbrelay_one"),
@@ -429,26 +283,28 @@ MISTAKES = [
 
 def selftest():
     """The small header agrees with the small sources, and no longer with any of the mistakes. Returns what went otherwise."""
-    sources, wrong = of_sources([SMALL_SOURCES]), []
-    if told := differences(of_header(SMALL_HEADER), sources):
+    small, wrong = (SMALL / "small.h").read_text(encoding="utf-8"), []
+    sources = of_rust([(SMALL / "small.rt.txt").read_text(encoding="utf-8")])
+    if told := differences(of_header(small), sources, "the sources"):
         wrong.append(f"the right header: {told}")
     for old, new, word in MISTAKES:
-        assert SMALL_HEADER.count(old) == 1, old
-        if not any(it.startswith(f"{word}:") for it in differences(of_header(SMALL_HEADER.replace(old, new)), sources)):
+        assert small.count(old) == 1, old
+        if not any(it.startswith(f"{word}:") for it in differences(of_header(small.replace(old, new)), sources, "the sources")):
             wrong.append(f"{old} for {new} isn't told")
     return wrong
 
 
 def main(words):
-    wrong, tried = selftest() if "--selftest" in words else [], len(MISTAKES) + 1 if "--selftest" in words else 0
-    header, sources = read_header(), read_sources()
+    is_tried = "--selftest" in words
+    wrong, header, sources = selftest() if is_tried else [], read_header(), read_sources()
     if not sources.functions:
         wrong.append(f"{SOURCES} exports nothing")
-    wrong += differences(header, sources) + faults_that_differ(header, PROTOCOL.read_text(encoding="utf-8")) + read_bindings(header)
+    wrong += differences(header, sources, "the sources") + in_bindings(header)
+    wrong += faults_that_differ(header, PROTOCOL.read_text(encoding="utf-8"))
     for it in wrong:
         print(f"header: {it}")
-    of_these = f"{len(sources.functions)} functions, {len(sources.structs)} structs" + (f", {tried} small headers" if tried else "")
-    print(f"header: {of_these}, {len(wrong)} wrong")
+    tried = f", {len(MISTAKES) + 1} small headers" if is_tried else ""
+    print(f"header: {len(sources.functions)} functions, {len(sources.structs)} structs{tried}, {len(wrong)} wrong")
     return 1 if wrong else 0
 
 

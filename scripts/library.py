@@ -12,8 +12,9 @@ import time
 from pathlib import Path
 
 from header import read_header
-from proving import compile_static, prove_all, stands_on_gate
-from repository import Workshop, run_in_lanes
+from lanes import run_in_lanes
+from proving import check_over_gate, prove_all, prove_by, stands_on_gate
+from repository import RT, Workshop, kit
 
 CRATE = "cb_c"
 # the kit's compilers, and where below out/ the library lies that each makes
@@ -59,8 +60,8 @@ def symbols(path):
 
 def joined(archive, names, to):
     """Writes one object of the crate's archive and the kit's allocator, in which these names alone are global."""
-    kit, whole = Path(shutil.which("rt")).resolve().parent.parent, to.with_suffix(".whole.o")
-    call("ld", "-r", "-o", whole, "--whole-archive", archive, kit / KIT_CODE)
+    whole = to.with_suffix(".whole.o")
+    call("ld", "-r", "-o", whole, "--whole-archive", archive, kit() / KIT_CODE)
     call("objcopy", *(f"--keep-global-symbol={it}" for it in sorted(names)), whole, to)
     made, needed = symbols(to)
     if made != set(names):
@@ -103,15 +104,28 @@ def put(source, target):
     part.replace(target)
 
 
+def compile_static(workshop, crate, compiler, jobs, to):
+    """Proves a static library over what it stands on, and writes its archive as one of the kit's compilers makes it. Returns whether it is
+    proved, as True or None."""
+    made = f"lib{crate.name}.a"
+
+    def command(room):
+        if stands_on_gate(workshop.repository, crate):
+            return [*check_over_gate(workshop.repository, crate, room, jobs, "build"), "--backend", compiler, "-o", f"out/{made}"]
+        return [*RT, "lib", "--jobs", str(jobs), "--backend", compiler]
+
+    return prove_by(workshop, crate, command, f"proved and compiled by {compiler}", made, to)
+
+
 def build_library(repository, compiler="llvm", prefix=None):
     """Proves the crate and all that it stands on, and writes the library, below a prefix too. Returns whether all is proved."""
     crate, began, to = repository.crates[CRATE], time.monotonic(), folder_of(repository, compiler)
     with Workshop(repository) as workshop, tempfile.TemporaryDirectory(prefix="cbrelay-archive-") as room:
-        if not stands_on_gate(repository, crate) and not prove_all(workshop, [repository.crates[it] for it in crate.uses]):
+        if not stands_on_gate(repository, crate) and not prove_all(workshop, repository.below(crate)):
             return False
         archive = Path(room, f"lib{CRATE}.a")
-        # alone in its lanes, it gets all processors that memory allows as jobs
-        given = run_in_lanes([crate], lambda _: (), lambda it, jobs: compile_static(workshop, it, compiler, jobs, archive), repository.memory)
+        # alone in its lanes, it gets all processors as jobs
+        given = run_in_lanes(repository, [crate], lambda it, jobs: compile_static(workshop, it, compiler, jobs, archive), lambda _: ())
         if not given[crate]:
             return False
         for it in [to] + ([Path(prefix).absolute()] if prefix else []):

@@ -5,17 +5,22 @@ can cite and no proofs, and `rt check` would build its own in their place, so `r
 """
 
 import fcntl
+import functools
 import os
 import shutil
 import sys
 import time
-from pathlib import Path
 
-from repository import MADE_OF, RT, run_in_lanes
+from lanes import run_in_lanes
+from progress import Progress, ended_so
+from repository import MADE_OF, RT, kit
 
 
 def keep_work(room, crate):
     """Moves what was proved and built in a room to the crate's own out/, where rt finds it."""
+    if crate.ending:
+        # it holds sources, and the gate refuses any outside of its crates
+        shutil.rmtree(room / "out" / "rlib", ignore_errors=True)
     held = os.open(crate.folder, os.O_RDONLY)
     try:
         fcntl.flock(held, fcntl.LOCK_EX)
@@ -42,86 +47,66 @@ def stands_on_gate(repository, crate):
 
 def check_over_gate(repository, crate, room, jobs, verb="check"):
     """Returns the command for a check of a crate in a room over the gate's libraries, or with "build" for one that compiles it too."""
-    kit, below = Path(shutil.which("rt")).resolve().parent.parent, repository.below(crate)
+    top, below = kit(), repository.below(crate)
     of_kit = ["std", *(it for it in crate.line.partition(":")[2].split("#")[0].split() if it not in repository.crates)]
     rlibs = {it.name: room.parent / it.name / "out" / "rlib" for it in below}
-    words = [kit / "bin" / "rattle", verb, "--crate-name", crate.name, "src/main.rt" if crate.is_program else "src/lib.rt"]
+    words = [top / "bin" / "rattle", verb, "--crate-name", crate.name, "src/main.rt" if crate.is_program else "src/lib.rt"]
     words += ["--crate-type", "staticlib"] if crate.is_static else []
-    words += [word for it in of_kit for word in ("--extern", f"{it}={kit}/rlibs/{it}.rlib")]
+    words += [word for it in of_kit for word in ("--extern", f"{it}={top}/rlibs/{it}.rlib")]
     words += [word for it in crate.uses for word in ("--extern", f"{it}={rlibs[it]}/{it}.rlib")]
-    words += [word for it in [kit / "rlibs", *rlibs.values()] for word in ("-L", f"dependency={it}")]
-    words += ["--antt-project", kit / "rattle" / "logic" / "antt-project.json", "--logic-built", kit / "logic_built"]
-    words += ["--toolchain", kit / "toolchain"] if verb == "build" else []
+    words += [word for it in [top / "rlibs", *rlibs.values()] for word in ("-L", f"dependency={it}")]
+    words += ["--antt-project", top / "rattle" / "logic" / "antt-project.json", "--logic-built", top / "logic_built"]
+    words += ["--toolchain", top / "toolchain"] if verb == "build" else []
     return [*words, "--incremental", "out/incremental", "--jobs", str(jobs)]
 
 
-def prove_over_gate(workshop, crate, jobs):
-    """Checks a crate over the gate's libraries, and keeps its work. Returns whether it is proved, as True or None."""
-    began = time.monotonic()
-    with workshop.room(crate) as room:
-        status, said = workshop.call(check_over_gate(workshop.repository, crate, room, jobs), room)
-        keep_work(room, crate)
-    if status:
-        print(said, file=sys.stderr)
-    print(f"build: {crate.name}: {'NOT PROVED' if status else 'proved'} in {time.monotonic() - began:.0f} s, over the gate's libraries", file=sys.stderr, flush=True)
-    return None if status else True
+def tell(*ended):
+    """Says how the proof of a crate ended."""
+    print(ended_so(*ended), file=sys.stderr, flush=True)
 
 
-def compile_static(workshop, crate, compiler, jobs, to):
-    """Proves a static library over what it stands on, and writes its archive as one of the kit's compilers makes it, "llvm" or "rattle".
+def prove_by(workshop, crate, command, done, made=None, to=None, tell=tell):
+    """Runs a command in a room, `command(room)`, keeps the crate's work, and tells how its proof ended. Returns whether it is proved, as
+    True or None.
 
-    Returns whether it is proved, as True or None.
+    With `made` it is proved only if the command writes this file of out/, which is copied if somebody wants it.
     """
-    began, repository = time.monotonic(), workshop.repository
-    with workshop.room(crate) as room:
-        made = room / "out" / f"lib{crate.name}.a"
-        made.parent.mkdir(exist_ok=True)
-        made.unlink(missing_ok=True)
-        if stands_on_gate(repository, crate):
-            words = [*check_over_gate(repository, crate, room, jobs, "build"), "--backend", compiler, "-o", made.relative_to(room)]
-        else:
-            words = [*RT, "lib", "--jobs", str(jobs), "--backend", compiler]
-        status, said = workshop.call(words, room)
-        is_proved = status == 0 and made.is_file()
-        if is_proved:
-            shutil.copyfile(made, to)
-        keep_work(room, crate)
-    if not is_proved:
-        print(said, file=sys.stderr)
-    words = "proved and compiled" if is_proved else "NOT PROVED"
-    print(f"build: {crate.name}: {words} by {compiler} in {time.monotonic() - began:.0f} s", file=sys.stderr, flush=True)
-    return is_proved or None
-
-
-def prove(workshop, crate, jobs):
-    """Proves and builds one crate over its libraries' kept work. Returns whether it is proved, as True or None."""
     began = time.monotonic()
     with workshop.room(crate) as room:
-        # a program is linked only by a run, here on no input; what it prints is compared by the gate
-        verb = ["run"] if crate.is_program else ["lib"]
+        (room / "out").mkdir(exist_ok=True)
         # what an earlier build left would pass for this one's, were the proof refused
-        for old in (room / "out").glob(f"{crate.name}*") if crate.is_program else ():
+        for old in (room / "out").glob(f"{made}*") if made else ():
             old.unlink()
-        status, said = workshop.call([*RT, *verb, "--jobs", str(jobs)], room)
-        is_proved = (room / "out" / crate.name).is_file() if crate.is_program else status == 0
-        if (room / "out").is_dir():
-            keep_work(room, crate)
-    if not is_proved:
-        print(said, file=sys.stderr)
-    words = "proved and built" if is_proved else "NOT PROVED"
-    print(f"build: {crate.name}: {words} in {time.monotonic() - began:.0f} s", file=sys.stderr, flush=True)
+        status, said = workshop.call(command(room), room)
+        # the status of `rt run` is that of the program, which was linked if it was proved
+        is_proved = (room / "out" / made).is_file() and (status == 0 or crate.is_program) if made else status == 0
+        if is_proved and to:
+            shutil.copyfile(room / "out" / made, to)
+        keep_work(room, crate)
+    tell(crate, is_proved and done, time.monotonic() - began, said)
     return is_proved or None
 
 
-def in_order(repository, crates):
-    """Returns these crates and all that they stand on, first those that most others wait for."""
-    whole = repository.with_below(crates)
-    behind = {it: sum(it in repository.below(other) for other in whole) for it in whole}
-    return sorted(whole, key=lambda it: -behind[it])
+def prove_over_gate(workshop, crate, jobs):
+    """Checks a crate over the gate's libraries."""
+    command = functools.partial(check_over_gate, workshop.repository, crate, jobs=jobs)
+    return prove_by(workshop, crate, command, "proved over the gate's libraries")
+
+
+def prove(workshop, crate, jobs, tell=tell):
+    """Proves and builds one crate over its libraries' kept work. A program is run on no input: what it prints is compared by the gate."""
+    words = [*RT, "run" if crate.is_program else "lib", "--jobs", str(jobs)]
+    return prove_by(workshop, crate, lambda _: words, "proved and built", crate.name if crate.is_program else None, tell=tell)
 
 
 def prove_all(workshop, crates):
-    """Proves and builds these crates and all that they stand on, lowest first. Returns whether all are proved."""
-    order = in_order(workshop.repository, crates)
-    given = run_in_lanes(order, workshop.repository.below, lambda crate, jobs: prove(workshop, crate, jobs), workshop.repository.memory)
-    return all(given.values())
+    """Proves and builds these crates and all that they stand on, side by side, and tells how far it is. Returns whether all are proved."""
+    repository = workshop.repository
+    every = repository.with_below(crates)
+    with Progress(repository, every) as progress:
+
+        def call(crate, jobs):
+            progress.begin(crate)
+            return prove(workshop, crate, jobs, progress.end)
+
+        return all(run_in_lanes(repository, every, call, repository.below).values())

@@ -1,6 +1,13 @@
-"""The repository's crates for the scripts: which stand on which, rooms to prove one in, and lanes that use the whole machine."""
+"""The repository's crates for the scripts: which stand on which, and rooms to prove or run one in.
+
+Some crates stand apart, and the gate doesn't prove them: the tests, and the programs of bench/. Such a crate is a folder with a file
+`crate.txt`, its line as crates.txt would have it, and the parts of a crate, whose files have the ending `.in` besides, as `lib.rt.in`: the
+gate refuses a source that none of its crates has. A room has them as the toolchain wants them.
+"""
 
 import contextlib
+import functools
+import hashlib
 import os
 import re
 import shutil
@@ -8,20 +15,28 @@ import signal
 import subprocess
 import sys
 import tempfile
-from concurrent.futures import FIRST_COMPLETED, ThreadPoolExecutor, wait
 from dataclasses import dataclass
 from pathlib import Path
 
-from cost import TICKS, spent
+from cost import TICKS, fields_of, processes, spent
 
-# What one check may take, in bytes: for itself, for each line of the crate's sources and of its proofs, and for each line of a source
-# below. Checks of whole crates were measured; the largest took 12 GB. Each further job of a check takes half as much again.
-MEMORY_OF_A_CHECK, OF_A_LINE, OF_A_LINE_OF_PROOFS, OF_A_LINE_BELOW = 1_200_000_000, 1_500_000, 300_000, 240_000
+ROOT = Path(__file__).resolve().parent.parent
+# The kit's figure for what a check takes, in bytes: for itself, for each line of the crate's sources, of its proofs, and of sources below.
+MEMORY_OF_A_CHECK, OF_A_LINE, OF_A_LINE_OF_PROOFS, OF_A_LINE_BELOW = 1_000_000_000, 1_000_000, 200_000, 80_000
+# About how many seconds of a processor a proof takes to read a module of a library, how many modules a function has, and what a line takes.
+SECONDS_OF_A_MODULE, MODULES_OF_A_FUNCTION, SECONDS_OF_A_LINE = 0.003, 16, 0.22
+FUNCTION = re.compile(rb"\bfn \w+")
 # what a library is made of, and what else a crate has
 MADE_OF = ("src", "specs", "proofs")
 PARTS = (*MADE_OF, "stdin", "stdout", "args", "status", "data")
+# the line and the ending of a crate that stands apart, and where these are
+LINE, ENDING, APART = "crate.txt", ".in", ("bench/programs/*", "tests")
 # the kit's command
 RT = [sys.executable, str(Path(__file__).resolve().with_name("rt.py"))]
+# how a command is run whose text is passed on
+PIPED = {"stdin": subprocess.DEVNULL, "stdout": subprocess.PIPE, "stderr": subprocess.STDOUT, "text": True, "errors": "replace"}
+# the variable that names another program to look at than the one that ./build leaves
+ANOTHER = "CBRELAY"
 # what stops a script
 SIGNALS = (signal.SIGINT, signal.SIGTERM, signal.SIGHUP)
 
@@ -34,10 +49,11 @@ class Crate:
     folder: Path
     line: str
     uses: tuple
+    ending: str = ""
 
     @property
     def is_program(self):
-        return (self.folder / "src" / "main.rt").is_file()
+        return (self.folder / "src" / f"main.rt{self.ending}").is_file()
 
     @property
     def is_static(self):
@@ -46,54 +62,126 @@ class Crate:
 
     def files(self, ending):
         """Returns the crate's files of sources, definitions and proofs with this ending."""
-        return [it for part in MADE_OF for it in sorted((self.folder / part).rglob(f"*{ending}"))]
+        return [it for part in MADE_OF for it in sorted((self.folder / part).rglob(f"*{ending}{self.ending}"))]
+
+    @functools.cache  # noqa: B019
+    def sum(self, parts=MADE_OF):
+        """Returns a checksum of the crate's line and of its files in these folders."""
+        made = hashlib.sha256(self.line.encode())
+        for path in (it for part in parts for it in sorted((self.folder / part).rglob("*")) if it.is_file()):
+            made.update(f"{path.relative_to(self.folder)}\n".encode() + hashlib.sha256(path.read_bytes()).digest())
+        return made.hexdigest()
 
     def count_lines(self, ending):
         return sum(it.read_bytes().count(b"\n") for it in self.files(ending))
 
+    def count_modules(self):
+        """Returns about how many modules the prover makes of the crate: those of its functions, and one for each other file."""
+        functions = sum(len(FUNCTION.findall(it.read_bytes())) for it in self.files(".rt"))
+        return MODULES_OF_A_FUNCTION * functions + len(self.files(".antt"))
+
+    def copy(self, to, work=None):
+        """Writes the crate's files to a folder, and this part of what earlier checks kept."""
+
+        def copy(source, target):
+            shutil.copy2(source, str(target).removesuffix(self.ending))
+
+        to.mkdir(parents=True)
+        for part in (self.folder / it for it in PARTS):
+            if part.is_dir():
+                shutil.copytree(part, to / part.name, copy_function=copy)
+            elif part.is_file():
+                shutil.copy2(part, to)
+        if work and (self.folder / work).is_dir():
+            shutil.copytree(self.folder / work, to / work, copy_function=link)
+
+
+@functools.cache
+def kit():
+    """Returns the folder of the Rattle kit."""
+    path = shutil.which("rt")
+    if not path:
+        sys.exit("rt isn't on the PATH: a Rattle kit has it in bin/")
+    return Path(path).resolve().parent.parent
+
+
+def link(source, target):
+    """Gives a file a second name; copies it where the file system can't. rt replaces such files and never writes into them."""
+    try:
+        os.link(source, target)
+    except OSError:
+        shutil.copy2(source, target)
+
+
+def folder_of(program, top=ROOT):
+    """Returns where a program stands below this folder: in bench/programs, or among the crates."""
+    apart = Path(top, "bench", "programs", program)
+    return apart if apart.is_dir() else Path(top, "crates", program)
+
+
+def path_of(program, top=ROOT):
+    """Returns where ./build leaves a program below this folder; of cbrelay here the one that the variable CBRELAY names, if it does."""
+    another = program == "cbrelay" and Path(top) == ROOT and os.environ.get(ANOTHER)
+    return Path(another) if another else folder_of(program, top) / "out" / program
+
 
 class Repository:
-    """The crates that crates.txt lists."""
+    """The crates that crates.txt lists, and those that stand apart, by name."""
 
     def __init__(self, root):
-        self.root = Path(root).resolve()
+        self.root, self.found_below = Path(root).resolve(), {}
         lines = [line.split("#")[0].strip() for line in (self.root / "crates.txt").read_text(encoding="utf-8").splitlines()]
-        listed = {line.partition(":")[0].split()[0]: line for line in lines if ":" in line}
-        self.crates = {
-            name: Crate(name, self.root / "crates" / name, line, tuple(it for it in line.partition(":")[2].split() if it in listed))
-            for name, line in listed.items()
-        }
-        self.found_below = {}
+        lines = {self.root / "crates" / line.partition(":")[0].split()[0]: line for line in lines if ":" in line}
+        far = [it for pattern in APART for it in sorted(self.root.glob(f"{pattern}/{LINE}"))]
+        far = {it.parent: it.read_text(encoding="utf-8").strip() for it in far}
+        names = {it.name for it in (*lines, *far)}
+
+        def crate(folder, line, ending):
+            return Crate(folder.name, folder, line, tuple(it for it in line.partition(":")[2].split() if it in names), ending)
+
+        self.crates = {folder.name: crate(folder, line, "") for folder, line in lines.items()}
+        self.apart = {folder.name: crate(folder, line, ENDING) for folder, line in far.items()}
+
+    def crate(self, name):
+        return self.crates.get(name) or self.apart[name]
 
     def below(self, crate):
         """Returns the libraries that a crate stands on, each after those that it stands on itself."""
         if crate.name not in self.found_below:
-            self.found_below[crate.name] = self.with_below([self.crates[name] for name in crate.uses])
+            self.found_below[crate.name] = self.with_below(map(self.crate, crate.uses))
         return self.found_below[crate.name]
 
+    def with_below(self, crates):
+        """Returns these crates and all that they stand on, lowest first."""
+        return [*dict.fromkeys(it for crate in crates for it in [*self.below(crate), crate])]
+
+    def sum_of(self, crate, parts=MADE_OF):
+        """Returns a checksum of the kit and of a crate with all that it stands on."""
+        sums = [(kit() / "KIT-ID").read_text(encoding="utf-8"), *(it.sum(parts) for it in self.with_below([crate]))]
+        return hashlib.sha256("\n".join(sums).encode()).hexdigest()[:16]
+
     def memory(self, crate):
-        """Returns about how much memory in bytes a check of the whole crate takes."""
+        """Returns the figure in bytes that the kit has for a check of the whole crate. It takes less: scripts/lanes.py."""
         below = sum(it.count_lines(".rt") for it in self.below(crate))
         own = OF_A_LINE * crate.count_lines(".rt") + OF_A_LINE_OF_PROOFS * crate.count_lines(".antt")
         return MEMORY_OF_A_CHECK + own + OF_A_LINE_BELOW * below
 
-    def with_below(self, crates):
-        """Returns these crates and all that they stand on, lowest first."""
-        found = []
-        for crate in crates:
-            found += [it for it in [*self.below(crate), crate] if it not in found]
-        return found
+    def reading(self):
+        """Returns by crates' names for how many lines of its own it counts that a crate's proof reads the libraries below it."""
+        modules = {it: it.count_modules() for it in (*self.crates.values(), *self.apart.values())}
+        return {it.name: sum(modules[below] for below in self.below(it)) * SECONDS_OF_A_MODULE / SECONDS_OF_A_LINE for it in modules}
 
-
-def link_tree(source, target):
-    """Gives a folder's files a second name each; where the file system can't, copies them. rt replaces such files and never writes into them."""
-    def link(old, new):
-        try:
-            os.link(old, new)
-        except OSError:
-            shutil.copy2(old, new)
-
-    shutil.copytree(source, target, copy_function=link)
+    @contextlib.contextmanager
+    def room(self, crate, with_work=False, within=None):
+        """Lends the folder of a copy of the crate, beside copies of what it stands on, with the work that earlier checks kept if so
+        asked: all of the crate's own, and of those below what others read."""
+        with tempfile.TemporaryDirectory(prefix=f"cbrelay-{crate.name}-", dir=within, ignore_cleanup_errors=True) as folder:
+            top, crates = Path(folder), self.with_below([crate])
+            (top / "crates.txt").write_text("".join(f"{it.line}\n" for it in crates), encoding="utf-8")
+            shutil.copy2(self.root / "HANDLES", top)
+            for it in crates:
+                it.copy(top / "crates" / it.name, with_work and ("out" if it is crate else "out/rlib"))
+            yield top / "crates" / crate.name
 
 
 class Stopped(Exception):
@@ -134,8 +222,7 @@ class Workshop:
         """Runs a command to its end, and returns its status and what it printed."""
         if not self.is_open:
             raise Stopped
-        how = {"stdin": subprocess.DEVNULL, "stdout": subprocess.PIPE, "stderr": subprocess.STDOUT, "text": True, "errors": "replace"}
-        with subprocess.Popen(words, cwd=folder, start_new_session=True, **how) as process:
+        with subprocess.Popen(words, cwd=folder, start_new_session=True, **PIPED) as process:
             self.running.add(process)
             said, _ = process.communicate()
             self.running.discard(process)
@@ -145,80 +232,9 @@ class Workshop:
 
     def seconds(self):
         """Returns the processor seconds of all commands that this script has run, with those that are running."""
-        sessions, ticks = {it.pid for it in self.running}, 0
-        for path in Path("/proc").glob("[0-9]*/stat"):
-            with contextlib.suppress(OSError):
-                fields = path.read_text(encoding="utf-8", errors="replace").rpartition(")")[2].split()
-                ticks += sum(map(int, fields[11:15])) if int(fields[3]) in sessions else 0
-        return spent() + ticks / TICKS
+        sessions, found = {str(it.pid) for it in self.running}, [fields_of(it) for it in processes()]
+        return spent() + sum(sum(map(int, it[11:15])) for it in found if it and it[3] in sessions) / TICKS
 
-    @contextlib.contextmanager
     def room(self, crate):
-        """Lends a folder that holds a copy of the crate and of what it stands on, with the work that earlier checks kept."""
-        room = Path(tempfile.mkdtemp(prefix=f"{crate.name}-", dir=self.folder))
-        try:
-            crates = self.repository.with_below([crate])
-            (room / "crates.txt").write_text("".join(f"{it.line}\n" for it in crates), encoding="utf-8")
-            shutil.copy2(self.repository.root / "HANDLES", room)
-            for it in crates:
-                to = room / "crates" / it.name
-                to.mkdir(parents=True)
-                for part in PARTS:
-                    if (it.folder / part).is_dir():
-                        shutil.copytree(it.folder / part, to / part)
-                    elif (it.folder / part).is_file():
-                        shutil.copy2(it.folder / part, to)
-                if (it.folder / "out").is_dir():
-                    link_tree(it.folder / "out", to / "out")
-            yield room / "crates" / crate.name
-        finally:
-            shutil.rmtree(room, ignore_errors=True)
-
-
-def cores():
-    """Returns how many processors this process may use, by its control group's quota too."""
-    found = len(os.sched_getaffinity(0))
-    with contextlib.suppress(OSError, ValueError):
-        quota, period = Path("/sys/fs/cgroup/cpu.max").read_text(encoding="utf-8").split()
-        found = min(found, max(int(quota) // int(period), 1))
-    return found
-
-
-def free_memory():
-    """Returns the memory in bytes that is free, by the control group's limit too."""
-    found = [1024 * int(re.search(r"MemAvailable:\s+(\d+)", Path("/proc/meminfo").read_text(encoding="utf-8"))[1])]
-    with contextlib.suppress(OSError, ValueError):
-        group = Path("/sys/fs/cgroup")
-        found.append(int((group / "memory.max").read_text(encoding="utf-8")) - int((group / "memory.current").read_text(encoding="utf-8")))
-    return min(found)
-
-
-def run_in_lanes(tasks, waits_for, call, memory):
-    """Calls `call(task, jobs)` for each task, in their order and side by side, each once those it waits for have ended.
-
-    There are as many lanes as processors, as far as memory goes: `memory(task)` is what one takes. Idle lanes go to what begins as
-    further jobs. Returns what each call gave, by task; a task behind one that gave None gives None.
-    """
-    most, space, given, running, left = cores(), free_memory(), {}, {}, list(tasks)
-
-    def jobs_for(task, ready):
-        """Returns the jobs with which a task can begin now, 0 where it can't."""
-        idle = most - sum(jobs for _, jobs in running.values())
-        free = space - sum(memory(it) * (1 + jobs) / 2 for it, jobs in running.values())
-        fitting = int(2 * free / memory(task)) - 1
-        return min(max(1, idle // ready), fitting if running else max(1, fitting)) if idle > 0 else 0
-
-    with ThreadPoolExecutor(most) as pool:
-        while left or running:
-            for task in [it for it in left if any(below in given and given[below] is None for below in waits_for(it))]:
-                given[task] = None
-                left.remove(task)
-            ready = [it for it in left if all(below in given for below in waits_for(it))]
-            for place, task in enumerate(ready):
-                jobs = jobs_for(task, len(ready) - place)
-                if jobs > 0:
-                    running[pool.submit(call, task, jobs)] = task, jobs
-                    left.remove(task)
-            for ended in wait(running, return_when=FIRST_COMPLETED).done if running else ():
-                given[running.pop(ended)[0]] = ended.result()
-    return given
+        """Lends a room of a crate, with the work that earlier checks kept."""
+        return self.repository.room(crate, with_work=True, within=self.folder)

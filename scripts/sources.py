@@ -1,27 +1,32 @@
-"""The contracts of the crates, read from their sources: functions, traits and impls with their
-clauses, and the definitions that the clauses cite. Nothing is compiled: brackets are counted."""
+"""The contracts of the crates, read from their sources: functions, traits and impls with their clauses, and the definitions that these
+cite.
 
+Nothing is compiled: a source is read by the layout that `rt fmt` gives it, where an item begins and ends as far in as its block.
+"""
+
+import functools
 import re
 from dataclasses import dataclass, field
 from pathlib import Path
+from typing import NamedTuple
 
-# comments, strings and characters, in which brackets don't count
-QUIET = re.compile(
-    r"//[^\n]*|/\*.*?\*/|\br(#*)\".*?\"\1|\"(?:\\.|[^\"\\])*\"|'(?:\\.[^'\n]*|[^\\'\n])'", re.S
-)
-BRACKET = re.compile(r"[(){}\[\]]")
-MARK = re.compile(r"[;{(\[]|\b(?:requires|ensures)\b")
-HEAD = re.compile(
-    r"(?P<pub>pub\b(?P<within>\([^)]*\))?\s+)?(?:(?:const|unsafe|extern)\s+)*"
+from repository import Repository
+
+STEP = "    "
+ITEM = re.compile(
+    r'(?P<pub>pub(?P<within>\([^)]*\))? )?(?:(?:const|unsafe|extern(?: "C")?) )*'
     r"(?P<kind>fn|impl|trait|struct|enum|mod|ghost|const|static|type|use)\b\s*(?P<name>\w+)?"
 )
-# an item, or the bracket of an attribute
-START = re.compile(rf"\[|\b{HEAD.pattern}")
-DOC = re.compile(r"^[ \t]*/// ?(.*)$", re.M)
-REMARK = re.compile(r"^[ \t]*(//(?!/).*)$", re.M)
+BLOCKS, TYPES = ("impl", "trait"), ("struct", "enum")
+WITH_BODIES = ("fn", *BLOCKS, *TYPES)
+CLAUSE = re.compile(r"\s*(requires|ensures\*?) (\w+)?")
+DOC = re.compile(r"\s*/// ?(.*)$")
+COMMENT = re.compile(r"\s*//.*$")
 # a condition among the fields of a type
 GHOST = re.compile(r"\bghost (\w+): \{")
 WORD = re.compile(r"[^\W\d]\w*")
+# a name, and the member that is asked of it
+ASKED = re.compile(r"(?<![\w.])([^\W\d]\w*)(?:\.([^\W\d]\w*))?")
 SENTENCE = re.compile(r"(.*?[.:?!])(?: [A-Z`*(-]|$)")
 
 IMPORT = re.compile(r"\buse\s+Rattle\.([\w.]+?)(?:\.\{([^}]*)\}|\s+as\s+(\w+))")
@@ -32,8 +37,7 @@ DEFINED = re.compile(r"(?:(?:abbrev|unfoldable|pub|record|data)\s+)+(\w+)")
 CONSTRUCTOR = re.compile(r"^  (\w+) :", re.M)
 
 
-@dataclass(frozen=True)
-class Clause:
+class Clause(NamedTuple):
     """A condition, a promise or a ghost member: its text as it stands, and the remarks above it."""
 
     kind: str
@@ -44,29 +48,30 @@ class Clause:
 
 @dataclass(eq=False)
 class Entry:
-    """A function, or what a trait or an impl declares of its own in ghost members."""
+    """A function, or what a type, a trait or an impl declares of its own in ghost members."""
 
     kind: str
-    crate: str
-    file: Path
-    line: int
+    place: str
     owner: str
     name: str
     head: str
     is_public: bool
     doc: str = ""
     of_trait: str = ""
-    around: str = ""
     clauses: list = field(default_factory=list)
     imports: dict = field(default_factory=dict)
 
     @property
-    def title(self):
-        return f"{self.owner}::{self.name}" if self.owner and self.kind == "fn" else self.name
+    def file(self):
+        return self.place.partition(":")[0]
 
     @property
-    def place(self):
-        return f"{self.file}:{self.line}"
+    def crate(self):
+        return self.file.split("/")[1]
+
+    @property
+    def title(self):
+        return f"{self.owner}::{self.name}" if self.owner and self.kind == "fn" else self.name
 
     @property
     def summary(self):
@@ -85,13 +90,97 @@ class Entry:
         return [it for it in self.clauses if it.name == name]
 
 
-@dataclass(frozen=True)
-class Definition:
+class Definition(NamedTuple):
     """A definition with the comment above it."""
 
-    file: Path
+    file: str
     line: int
     text: str
+
+
+class Item(NamedTuple):
+    """An item of a source, with its doc comment and its lines, from `first` to before `end`, counted from 0."""
+
+    kind: str
+    name: str
+    is_public: bool
+    doc: str
+    first: int
+    end: int
+
+
+def items(lines, first=0, end=None, indent=""):
+    """The items between two lines that stand so far in."""
+    doc, place, end = [], first, len(lines) if end is None else end
+    while place < end:
+        found = ITEM.match(lines[place], len(indent)) if lines[place].startswith(indent) else None
+        if found:
+            behind = end_of(lines, place, found["kind"], indent)
+            yield Item(found["kind"], found["name"], bool(found["pub"]) and not found["within"], "\n".join(doc).strip(), place, behind)
+            doc, place = [], behind
+        else:
+            doc += [it[1] for it in [DOC.match(lines[place])] if it]
+            place += 1
+
+
+def end_of(lines, first, kind, indent):
+    """The line behind an item: behind the bracket that closes it, as far in as itself, or else behind a semicolon outside of brackets."""
+    has_body, has_clause, depth = False, False, 0
+    for place in range(first, len(lines)):
+        line = COMMENT.sub("", lines[place]).rstrip()
+        has_clause = has_clause or bool(CLAUSE.match(line))
+        depth += sum(line.count(it) for it in "({[") - sum(line.count(it) for it in ")}]")
+        if line in (f"{indent}}}", f"{indent}{{}}"):
+            return place + 1
+        if not has_body and depth <= 0 and (line.endswith(";") or line.endswith("}") and not has_clause):
+            return place + 1
+        has_body = has_body or kind in WITH_BODIES and (line == f"{indent}{{" or not has_clause and line.endswith("{"))
+    return len(lines)
+
+
+def members(lines, block):
+    """The items of a trait or an impl."""
+    inside = next((it for it in range(block.first, block.end) if lines[it].endswith("{")), block.end)
+    return items(lines, inside + 1, block.end, STEP)
+
+
+def head_of(lines, item):
+    """The signature of a function, or the header of a block, on one line."""
+    taken = []
+    for line in lines[item.first : item.end]:
+        if CLAUSE.match(line) or line.strip() == "{":
+            break
+        taken.append(COMMENT.sub("", line))
+        if line.rstrip().endswith(("{", ";")):
+            break
+    text = " ".join(" ".join(taken).split()).partition(" {")[0].rstrip(";")
+    return re.sub(r",? (?=[)>](?!=))", "", re.sub(r"(?<=[(<]) ", "", text))
+
+
+def clauses_of(lines, item, indent):
+    """The clauses of a function, with the remarks above each."""
+    found, remarks, text = [], [], []
+
+    def close():
+        if text:
+            kind, name = CLAUSE.match(text[0]).groups()
+            whole = dedented("\n".join(text).rstrip(), len(indent + STEP)).removesuffix(";")
+            found.append(Clause(kind, name or "", whole, tuple(remarks)))
+            remarks.clear()
+            text.clear()
+
+    for line in lines[item.first : item.end]:
+        is_head = CLAUSE.match(line) and line.startswith(indent + STEP)
+        if is_head or COMMENT.match(line) or line.strip() in ("{", "{}"):
+            close()
+        if line in (f"{indent}{{", f"{indent}{{}}") or (not is_head and not found and not text and line.endswith("{")):
+            break
+        if is_head or text:
+            text.append(line)
+        elif COMMENT.match(line) and not DOC.match(line):
+            remarks.append(line.strip())
+    close()
+    return found
 
 
 def dedented(text, column):
@@ -112,17 +201,6 @@ def imports_of(text):
     return found
 
 
-def blanks(found):
-    """As many blanks as a text has characters, on as many lines."""
-    return "\n".join(" " * len(it) for it in found[0].split("\n"))
-
-
-def joined(text):
-    """A signature on one line."""
-    text = " ".join(text.split())
-    return re.sub(r",? (?=[)>](?!=))", "", re.sub(r"(?<=[(<]) ", "", text))
-
-
 def without_generics(text):
     """A text without what stands in angle brackets."""
     text = text.replace("->", "")
@@ -135,150 +213,77 @@ def impl_names(head):
     """The type of an impl, and the trait that it is for, if there is one."""
     bare = without_generics(head).partition(" where ")[0].removeprefix("impl").strip()
     of_trait, is_of, owner = bare.partition(" for ")
-    short = [(WORD.findall(it) or [""])[-1] for it in ((owner, of_trait) if is_of else (bare, ""))]
-    return tuple(short)
+    return tuple((WORD.findall(it) or [""])[-1] for it in ((owner, of_trait) if is_of else (bare, "")))
 
 
 class Source:
     """The entries of one source."""
 
-    def __init__(self, crate, file, text, exported):
-        self.crate, self.file, self.text, self.exported = crate, file, text, exported
-        self.masked = QUIET.sub(blanks, text)
-        self.closes, self.entries, self.docs, self.types = {}, [], {}, {}
-        opened = []
-        for it in BRACKET.finditer(self.masked):
-            if it[0] in "({[":
-                opened.append(it.start())
-            elif opened:
-                self.closes[opened.pop()] = it.start()
-        self.scan(0, len(text), None, {})
+    def __init__(self, file, text, exported):
+        self.file, self.lines, self.exported, self.entries, self.docs = file, text.split("\n"), exported, [], {}
+        found = [*items(self.lines)]
+        self.imports = self.imported(found)
+        for it in found:
+            if it.kind == "fn":
+                self.function(it, None)
+            elif it.kind in TYPES:
+                self.type(it)
+            elif it.kind in BLOCKS:
+                self.block(it)
 
-    def line(self, at):
-        return self.text.count("\n", 0, at) + 1
+    def imported(self, found):
+        """Where the names come from that these items import."""
+        return imports_of("\n".join("\n".join(self.lines[it.first : it.end]) for it in found if (it.kind, it.name) == ("ghost", "use")))
 
-    def first(self, at, *marks):
-        """The place of the first of these marks outside of brackets, from a place on."""
-        while found := MARK.search(self.masked, at):
-            if found[0] in marks:
-                return found.start()
-            at = self.closes.get(found.start(), found.end() - 1) + 1
-        return len(self.text)
-
-    def scan(self, at, end, block, imports):
-        """Reads the items between two places, those of a trait or an impl if there is a block."""
-        imports, gap = dict(imports), at
-        while found := START.search(self.masked, at, end):
-            at = found.start()
-            if found[0] != "[":
-                doc = "\n".join(DOC.findall(self.text, gap, at)).strip()
-                at = gap = self.item(HEAD.match(self.masked, at), doc, block, imports)
-            else:
-                at = self.closes[at] + 1
-
-    def item(self, head, doc, block, imports):
-        """Reads one item, and returns the place behind it."""
-        kind, at = head["kind"], head.start()
-        if kind == "fn":
-            return self.function(head, doc, block, imports)
-        if kind == "ghost":
-            return self.ghost(head, block, imports)
-        if kind in ("impl", "trait", "mod", "struct", "enum"):
-            brace = self.first(at, "{", ";")
-            end = self.closes.get(brace, brace)
-            if kind in ("struct", "enum"):
-                self.type(head, brace, end, doc, imports)
-            elif kind == "mod":
-                self.scan(brace + 1, end, None, imports)
-            else:
-                self.block(head, brace, doc, imports)
-            return end + 1
-        return self.first(at, ";") + 1
-
-    def type(self, head, brace, end, doc, imports):
-        """Reads a type's words, and the conditions among its fields, which each value meets."""
-        name, line = head["name"], self.line(head.start())
-        self.docs[name] = doc
-        self.types[name] = set(WORD.findall(self.masked, head.start(), end))
-        is_public = name in self.exported
-        made = Entry(head["kind"], self.crate, self.file, line, name, name, name, is_public, doc)
-        made.imports = imports
-        for it in GHOST.finditer(self.masked, brace, end):
-            last = self.closes[it.end() - 1] + 1
-            made.clauses.append(self.clause("ghost", it[1], it.start(), last, it.start()))
+    def entry(self, item, owner, name, head, is_public, **more):
+        made = Entry(item.kind, f"{self.file}:{item.first + 1}", owner, name, head, is_public, **more)
         self.entries.append(made)
+        return made
 
-    def block(self, head, brace, doc, imports):
+    def type(self, item):
+        """Reads the conditions among a type's fields, which each value meets."""
+        name, text = item.name, "\n".join(self.lines[item.first : item.end])
+        self.docs[name] = item.doc
+        made = self.entry(item, name, name, name, name in self.exported, doc=item.doc, imports=self.imports)
+        for it in GHOST.finditer(text):
+            last = it.end()
+            while text.count("{", it.start(), last) != text.count("}", it.start(), last):
+                last += 1
+            made.clauses.append(Clause("ghost", it[1], dedented(text[it.start() : last], it.start() - text.rfind("\n", 0, it.start()) - 1)))
+
+    def block(self, item):
         """Reads a trait or an impl."""
-        words = joined(self.masked[head.start() : brace])
-        if head["kind"] == "trait":
-            owner, of_trait, title = head["name"], "", f"trait {head['name']}"
-        else:
-            owner, of_trait = impl_names(words)
-            title = f"{owner} as {of_trait}" if of_trait else owner
-        is_public = bool({owner, of_trait} & self.exported)
-        line = self.line(head.start())
-        block = Entry(head["kind"], self.crate, self.file, line, owner, title, title, is_public)
-        block.of_trait, block.doc, block.around = of_trait, doc or self.docs.get(owner, ""), words
-        self.entries.append(block)
-        self.scan(brace + 1, self.closes[brace], block, imports)
+        head, inside = head_of(self.lines, item), [*members(self.lines, item)]
+        owner, of_trait = (item.name, "") if item.kind == "trait" else impl_names(head)
+        title = f"trait {owner}" if item.kind == "trait" else f"{owner} as {of_trait}" if of_trait else owner
+        is_public, doc = bool({owner, of_trait} & self.exported), item.doc or self.docs.get(owner, "")
+        made = self.entry(item, owner, title, title, is_public, doc=doc, of_trait=of_trait, imports=self.imports | self.imported(inside))
+        for it in inside:
+            if it.kind == "fn":
+                self.function(it, made)
+            elif it.kind == "ghost" and it.name != "use":
+                text = dedented("\n".join(self.lines[it.first : it.end]), len(STEP))
+                made.clauses.append(Clause("ghost", it.name, text.removesuffix(";")))
 
-    def ghost(self, head, block, imports):
-        """Reads an import of definitions, or a ghost member."""
-        end = self.first(head.start(), ";")
-        if head["name"] == "use":
-            imports.update(imports_of(self.text[head.start() : end]))
-        elif block:
-            start = head.start()
-            block.clauses.append(self.clause("ghost", head["name"], start, end, start))
-            block.imports = imports
-        return end + 1
-
-    def clause(self, kind, name, at, end, gap):
-        """A clause between two places, with the remarks between it and the gap's beginning."""
-        column = at - self.text.rfind("\n", 0, at) - 1
-        remarks = tuple(REMARK.findall(self.text, gap, at))
-        return Clause(kind, name, dedented(self.text[at:end], column), remarks)
-
-    def function(self, head, doc, block, imports):
-        """Reads a function's signature and its clauses."""
-        marks, start = ("{", ";", "requires", "ensures"), head.start()
-        at = gap = self.first(start, *marks)
-        words = joined(self.masked[start:at])
-        owner, of_trait = (block.owner, block.of_trait) if block else ("", "")
-        line, is_public = self.line(start), self.is_public(head, block)
-        made = Entry("fn", self.crate, self.file, line, owner, head["name"], words, is_public, doc)
-        made.of_trait, made.around = of_trait, block.around if block else ""
-        made.imports, gap = imports, start
-        while at < len(self.text) and self.masked[at] not in "{;":
-            word, _, name = self.masked[at : (brace := self.masked.index("{", at))].partition(" ")
-            end = self.closes[brace] + 1
-            made.clauses.append(self.clause(word.strip(), name.strip(), at, end, gap))
-            at, gap = self.first(end, *marks), end
-        self.entries.append(made)
-        return self.closes.get(at, at) + 1
-
-    def is_public(self, head, block):
-        """Whether other crates can call a function: by its type, its trait or its own name."""
-        if block and (block.kind == "trait" or block.of_trait):
-            return block.is_public
-        if not head["pub"] or head["within"]:
-            return False
-        return (block.owner if block else head["name"]) in self.exported
+    def function(self, item, block):
+        """Reads a function's signature and its clauses. Other crates can call it by its type, its trait or its own name."""
+        owner, of_trait, imports = (block.owner, block.of_trait, block.imports) if block else ("", "", self.imports)
+        head, clauses = head_of(self.lines, item), clauses_of(self.lines, item, STEP if block else "")
+        is_public = item.is_public and (owner or item.name) in self.exported
+        if block and (block.kind == "trait" or of_trait):
+            is_public = block.is_public
+        self.entry(item, owner, item.name, head, is_public, doc=item.doc, of_trait=of_trait, imports=imports, clauses=clauses)
 
 
 def exported_names(folder):
     """The names that a crate hands on, those for C among them; of a program, which nothing stands on, all its own."""
-    library = folder / "src" / "lib.rt"
-    texts = [it.read_text(encoding="utf-8") for it in (folder / "src").rglob("*.rt")]
-    if library.is_file():
-        text = library.read_text(encoding="utf-8")
-        used = re.findall(r"^pub use ([^;]+);", text, re.M)
-        own = re.findall(r"^pub (?:fn|struct|enum|trait) (\w+)", text, re.M)
-        to_c = re.findall(r'^pub extern "C" fn (\w+)', "\n".join(texts), re.M)
-        return {word for it in [*used, *own, *to_c] for word in WORD.findall(it)}
-    own = r"^\s*pub (?:fn|struct|enum|trait) (\w+)"
-    return {name for text in texts for name in re.findall(own, text, re.M)}
+    texts = {it: it.read_text(encoding="utf-8") for it in (folder / "src").rglob("*.rt")}
+    whole, library = "\n".join(texts.values()), texts.get(folder / "src" / "lib.rt")
+    if library is None:
+        return set(re.findall(r"^\s*pub (?:fn|struct|enum|trait) (\w+)", whole, re.M))
+    used = re.findall(r"^pub use ([^;]+);|^pub (?:fn|struct|enum|trait) (\w+)", library, re.M)
+    to_c = re.findall(r'^pub extern "C" fn (\w+)', whole, re.M)
+    return {word for it in (*(part for pair in used for part in pair), *to_c) for word in WORD.findall(it)}
 
 
 class Definitions:
@@ -288,58 +293,38 @@ class Definitions:
         self.by_name, self.imports = {}, imports_of(text)
         above, line = "", 1
         for chunk in CHUNK.split(text):
-            if chunk.startswith("--"):
-                above += chunk
-            elif found := DEFINED.match(chunk):
-                start = line - above.count("\n")
-                made = Definition(file, start, (above + chunk).rstrip())
+            found = None if chunk.startswith("--") else DEFINED.match(chunk)
+            if found:
+                made = Definition(file, line - above.count("\n"), (above + chunk).rstrip())
                 constructors = CONSTRUCTOR.findall(chunk) if " data " in f" {chunk[:20]}" else ()
                 for name in (found[1], *constructors):
                     self.by_name.setdefault(name, made)
-                above = ""
-            else:
-                above = ""
+            above = above + chunk if chunk.startswith("--") else ""
             line += chunk.count("\n")
 
 
 class Tree:
-    """The crates that crates.txt lists, in its order, and what their sources have: entries in the
-    order of files, the words of each type."""
+    """The crates that crates.txt lists, in its order, and what their sources have: entries in the order of files."""
 
     def __init__(self, root):
-        self.root = Path(root).resolve()
-        lines = (self.root / "crates.txt").read_text(encoding="utf-8").splitlines()
-        bare = (it.split("#")[0] for it in lines)
-        self.crates = [it.partition(":")[0].split()[0] for it in bare if ":" in it]
-        self.read, self.types = {}, {}
-        self.entries = [it for crate in self.crates for it in self.of_crate(crate)]
+        self.root, self.entries = Path(root).resolve(), []
+        self.crates = Repository(root).crates
+        for crate in self.crates.values():
+            exported = exported_names(crate.folder)
+            for file in sorted((crate.folder / "src").rglob("*.rt")):
+                self.entries += Source(str(file.relative_to(self.root)), file.read_text(encoding="utf-8"), exported).entries
 
-    def of_crate(self, crate):
-        """Reads a crate's sources, files by name, and returns their entries."""
-        folder, found = self.root / "crates" / crate, []
-        exported = exported_names(folder)
-        for file in sorted((folder / "src").rglob("*.rt")):
-            text = file.read_text(encoding="utf-8")
-            source = Source(crate, file.relative_to(self.root), text, exported)
-            for name, words in source.types.items():
-                self.types[name] = self.types.get(name, set()) | words
-            found += source.entries
-        return found
-
+    @functools.cache  # noqa: B019
     def definitions(self, file):
         """The definitions of a file of specs/, or None where there is no such file."""
-        if file not in self.read:
-            path = self.root / file
-            text = path.read_text(encoding="utf-8") if path.is_file() else None
-            self.read[file] = None if text is None else Definitions(file, text)
-        return self.read[file]
+        path = self.root / file
+        return Definitions(file, path.read_text(encoding="utf-8")) if path.is_file() else None
 
     def definition(self, path, name):
         """What an imported name stands for: its definition, or None where none is of the tree's."""
         if path[0] not in self.crates or path[1:2] != ["specs"] or path[2:3] == ["declared"]:
             return None
-        file = Path("crates", path[0], "specs", *path[2:]).with_suffix(".antt")
-        found = self.definitions(file)
+        found = self.definitions(f"crates/{path[0]}/specs/{'/'.join(path[2:])}.antt")
         if found is None or name in found.by_name:
             return found and found.by_name[name]
         further = found.imports.get(name)
@@ -348,20 +333,13 @@ class Tree:
     def cited(self, entry, clauses=None):
         """The definitions that an entry's clauses cite, or some, and the other names in them."""
         definitions, others = [], []
-        for word in dict.fromkeys(self.words(entry.clauses if clauses is None else clauses)):
-            alias, _, member = word.partition(".")
-            if alias not in entry.imports:
-                continue
-            path, name = entry.imports[alias]
-            found = self.definition(path, name or member)
-            if found and found not in definitions:
-                definitions.append(found)
-            elif not found:
-                others.append((path, name or member))
+        texts = (it.text[it.text.find("{") :] for it in (entry.clauses if clauses is None else clauses))
+        for alias, member in dict.fromkeys(found for text in texts for found in ASKED.findall(text)):
+            if alias in entry.imports:
+                path, name = entry.imports[alias]
+                found = self.definition(path, name or member)
+                if found and found not in definitions:
+                    definitions.append(found)
+                elif not found:
+                    others.append((path, name or member))
         return definitions, others
-
-    def words(self, clauses):
-        """The names in clauses, each with the member that is asked of it."""
-        for clause in clauses:
-            inside = clause.text[clause.text.find("{") :]
-            yield from re.findall(r"(?<![\w.])[^\W\d]\w*(?:\.[^\W\d]\w*)?", inside)

@@ -1,25 +1,12 @@
 #!/usr/bin/env python3
 """Runs the built programs on stored inputs and compares what they print: scripts/stored_runs.py [WORD ..]
 
-runs/PROGRAM/NAME.run is a run of crates/PROGRAM/out/PROGRAM, or of a program of bench/programs, which looks run that compare it
-with a model. Its lines are
-
-    # TEXT          a remark; an empty line is one too
-    args WORD ..    the program's words
-    status N        the exit status that it must end with, 0 where none is told
-    input FORM      how the input's lines are read from here on: text, hex, messages or envelopes
-    output FORM     how the output's lines are read: text, hex or envelopes
-    < TEXT          a line of standard input
-    > TEXT          a line of standard output
-    ! TEXT          a line of standard error; where a run has none, standard error isn't compared
-
-As text a line ends with a line feed. As hex the lines are bytes, one behind another, with spaces as you like. Of messages each
-line is a command's name and its payload in hex: it becomes a line of hex of the whole message, with the right checksum, as
-`decode` takes it. As envelopes such a line becomes the message's bytes, as `serve` takes and writes them. Text and messages, or
-hex and envelopes, but not both, are one run's input.
+runs/PROGRAM/NAME.run is a run of crates/PROGRAM/out/PROGRAM, or of bench/programs/PROGRAM/out/PROGRAM. Runs of the latter are left
+to looks, which make them in a checked build, unless a WORD has PROGRAM. docs/TESTING.md tells what the lines of such a file mean.
 
 A file of examples/ is the input of crates/cbrelay/out/cbrelay, NAME.stdout beside it what it prints, NAME.args its words and
-NAME.status its status. With WORD only those whose path has one of the words are run. The status is 0 where all came out so.
+NAME.status its status. The variable CBRELAY names another program than that. With WORD only those whose path has one of the words
+are run. The status is 0 where all came out so.
 """
 
 import difflib
@@ -29,12 +16,12 @@ import subprocess
 import sys
 from concurrent.futures import ThreadPoolExecutor
 from dataclasses import dataclass, field
-from pathlib import Path
 
-ROOT = Path(__file__).resolve().parent.parent
-PROGRAM = "cbrelay"
+from repository import ROOT, Repository, path_of
+
+PROGRAM, APART = "cbrelay", Repository(ROOT).apart
 MAGIC = bytes.fromhex("fabfb5da")
-SECONDS = 60
+SECONDS = 300
 # what lies beside an example's input
 BESIDE = (".stdout", ".args", ".status")
 
@@ -57,11 +44,11 @@ class Run:
 
     def failure(self):
         """Runs it, and returns what differs, or None."""
-        binary = ROOT / "crates" / self.program / "out" / self.program
+        binary = path_of(self.program)
         try:
             ended = subprocess.run([binary, *self.args], input=self.given, capture_output=True, timeout=SECONDS, check=False)
         except FileNotFoundError:
-            return f"there is no {binary.relative_to(ROOT)}: ./build {self.program}"
+            return f"there is no {binary}: ./build {self.program}"
         except subprocess.TimeoutExpired:
             return f"it took more than {SECONDS} s"
         pairs = [("standard output", self.printed, ended.stdout), ("standard error", self.told, ended.stderr)]
@@ -132,17 +119,24 @@ def read_example(path):
     return Run(str(path.relative_to(ROOT)), PROGRAM, words, int(beside(".status", b"0")), path.read_bytes(), beside(".stdout", b""))
 
 
+def is_chosen(run, words):
+    """Whether a run is made where these words are given."""
+    if run.program in APART:
+        return any(run.program in word and word in run.name for word in words)
+    return not words or any(word in run.name for word in words)
+
+
 def main(words):
     if {"-h", "--help"} & set(words):
         print(__doc__.strip())
         return 0
     try:
-        runs = [read_run(path) for path in sorted((ROOT / "runs").glob("*/*.run")) if (ROOT / "crates" / path.parent.name).is_dir()]
+        runs = [read_run(path) for path in sorted((ROOT / "runs").glob("*/*.run"))]
     except BadRun as error:
         print(error)
         return 1
     runs += [read_example(path) for path in sorted((ROOT / "examples").iterdir()) if path.is_file() and path.suffix not in BESIDE]
-    chosen = [it for it in runs if not words or any(word in it.name for word in words)]
+    chosen = [it for it in runs if is_chosen(it, words)]
     with ThreadPoolExecutor() as pool:
         failures = [(run, failure) for run, failure in zip(chosen, pool.map(Run.failure, chosen)) if failure]
     for run, failure in failures:

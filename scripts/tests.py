@@ -1,13 +1,11 @@
 #!/usr/bin/env python3
 """Runs the tests of tests/: scripts/tests.py [NAME ..]
 
-They are built beside the crates in a copy, by `rt try --test`: that proves nothing, and each test runs in a process of its own, in a
-build that stops at a bad access and an overflow. With names, as `row_4` or `messages::row_4`, only these tests run.
-
-Each test has a line, `passed NAME` or `failed NAME`, behind it what the run said of it; the last line is `N passed, M failed`. The
-tests are those that the sources have, and each row of ROWS is among them: what is missing, didn't run or ended otherwise has failed.
-The line `// EXAMPLE OF docs/NAME.md` of a source stands for the first code of that document.
-The status is 0 only if all passed and the run itself ended well.
+They are built beside the crates in a copy, by `rt try --test`: that proves nothing, and each test runs in a process of its own, in a build
+that stops at a bad access and an overflow. With names, as `row_4` or `messages::row_4`, only these run. The line `// EXAMPLE OF
+docs/NAME.md` of a source stands for the first code of that document. Each test has a line, `passed NAME` or `failed NAME`; the last line is
+`N passed, M failed`. A test of the sources, or a row of ROWS, that is missing, didn't run or ended otherwise has failed. The status is 0
+only if none did.
 """
 
 import re
@@ -15,14 +13,11 @@ import signal
 import subprocess
 import sys
 import textwrap
-from pathlib import Path
 
-from apart import laid_out
 from cost import spent
-from repository import RT, Repository
+from repository import PIPED, ROOT, RT, Repository
 
-ROOT = Path(__file__).resolve().parent.parent
-FOLDER = ROOT / "tests"
+CRATE = "tests"
 # A test that runs longer has failed. The pings behind checkpoints take some 100 processor seconds in this build.
 SECONDS = 1_800
 # The worked rows, by the file that has them. Row 17 is `two_handlers_meet`.
@@ -48,7 +43,6 @@ ROWS = {
     "transactions": "row_6 row_8_has_64_bytes row_a_counts_that_lie row_a_no_inputs row_b_sum row_b_values",
     "works": "row_18_a_kick_after_the_first_ping row_18_a_kick_before_the_first_ping_is_given",
 }
-ENDING = ".rt.in"
 TEST = re.compile(r"#\[test\]\s*fn (\w+)")
 # a test with what is said of it, up to the bracket that ends it
 WHOLE_TEST = re.compile(r"^(?:///.*\n)*#\[test\]\nfn (\w+)(?:.*\n)*?\}\n", re.MULTILINE)
@@ -60,40 +54,31 @@ ENDED = re.compile(r"test (\S+) \.\.\. (ok|FAILED)$")
 SUMMARY = re.compile(r"test result: (?:ok|FAILED)\. (\d+) passed; (\d+) failed; (\d+) ignored; (\d+) filtered out$")
 
 
-def tests_there():
+def tests_there(crate):
     """Returns the names of all tests that the sources have, as MODULE::FUNCTION."""
-    return [
-        f"{path.name.removesuffix(ENDING)}::{name}"
-        for path in sorted((FOLDER / "src").glob(f"*{ENDING}"))
-        for name in TEST.findall(path.read_text(encoding="utf-8"))
-    ]
+    found = ((it.name.partition(".")[0], TEST.findall(it.read_text(encoding="utf-8"))) for it in crate.files(".rt"))
+    return [f"{module}::{name}" for module, names in found for name in names]
 
 
-def write_examples(sources):
-    """Puts the first code of a document in the place of the line that names it, in a copy of the sources."""
+def prepare(sources, chosen):
+    """Puts the first code of a document in the place of the line that names it, in a copy of the sources, and leaves only these tests
+    there."""
+
+    def code(found):
+        document = (ROOT / found[1]).read_text(encoding="utf-8")
+        return textwrap.dedent(CODE.search(document)[0]).strip() + "\n"
+
     for path in sources.glob("*.rt"):
-        def code(found):
-            document = (ROOT / found[1]).read_text(encoding="utf-8")
-            return textwrap.dedent(CODE.search(document)[0]).strip() + "\n"
-
-        path.write_text(EXAMPLE.sub(code, path.read_text(encoding="utf-8")), encoding="utf-8")
-
-
-def leave_only(chosen, sources):
-    """Takes all other tests out of a copy of the sources."""
-    for path in sources.glob("*.rt"):
-        def kept(found, module=path.stem):
-            return found[0] if f"{module}::{found[1]}" in chosen else ""
-
-        path.write_text(WHOLE_TEST.sub(kept, path.read_text(encoding="utf-8")), encoding="utf-8")
+        text = EXAMPLE.sub(code, path.read_text(encoding="utf-8"))
+        left = WHOLE_TEST.sub(lambda found: found[0] if f"{path.stem}::{found[1]}" in chosen else "", text)  # noqa: B023
+        path.write_text(left, encoding="utf-8")
 
 
 def run(folder):
     """Runs the tests of a crate laid out in a folder. Returns how each ended, by its name, the summary's numbers, and the status."""
     ended, summary = {}, None
     words = [*RT, "try", "--test", "--seconds", str(SECONDS)]
-    how = {"stdin": subprocess.DEVNULL, "stdout": subprocess.PIPE, "stderr": subprocess.STDOUT, "text": True, "errors": "replace"}
-    with subprocess.Popen(words, cwd=folder, **how) as process:
+    with subprocess.Popen(words, cwd=folder, **PIPED) as process:
         try:
             for line in process.stdout:
                 found, total = ENDED.match(line), SUMMARY.match(line)
@@ -125,18 +110,16 @@ def judged(chosen, ended, summary, status):
 
 def main():
     signal.signal(signal.SIGTERM, lambda number, _: sys.exit(128 + number))
-    before, there, words = spent(), tests_there(), sys.argv[1:]
-    unknown = [word for word in words if not any(word in (name, name.partition("::")[2]) for name in there)]
-    if unknown:
-        sys.exit(f"no test has the name {unknown[0]}")
-    chosen = [name for name in there if not words or any(word in (name, name.partition("::")[2]) for word in words)]
+    repository, words = Repository(ROOT), sys.argv[1:]
+    before, there = spent(), tests_there(repository.apart[CRATE])
+    by_word = {word: [name for name in there if word in (name, name.partition("::")[2])] for word in words}
+    for word in (it for it, found in by_word.items() if not found):
+        sys.exit(f"no test has the name {word}")
+    chosen = [name for name in there if not words or any(name in found for found in by_word.values())]
     rows = [f"{module}::{name}" for module, names in ROWS.items() for name in names.split()]
-    with laid_out(Repository(ROOT), FOLDER) as top:
-        crate = top / "crates" / FOLDER.name
-        write_examples(crate / "src")
-        if words:
-            leave_only(set(chosen), crate / "src")
-        ended, summary, status = run(crate)
+    with repository.room(repository.apart[CRATE]) as folder:
+        prepare(folder / "src", set(chosen))
+        ended, summary, status = run(folder)
     faults = judged(chosen, ended, summary, status)
     faults += [f"{row}: the sources lack this row" for row in rows if row not in there]
     for fault in faults:

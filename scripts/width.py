@@ -1,12 +1,8 @@
 #!/usr/bin/env python3
-"""Looks whether the lines of the sources and the definitions are short enough: scripts/width.py [FOLDER]
+"""Looks whether the lines of sources and definitions are short enough: scripts/width.py [FOLDER]
 
-Read are the sources of the crates, of the benchmarks and of the tests, and the definitions in the crates' specs/. Wrong are
-
-    a line            of more than 100 characters. An import may be longer, and an attribute, which rattle fmt keeps on one line
-    an attribute      before the doc comment of its item: the comment comes first, then the attributes, then the item
-
-It prints each such line. The status is 0 where there is none. FOLDER is the repository to look at, this one where none is named.
+Wrong is a line of more than 100 characters, an import or an attribute aside, which rattle fmt keeps on one line; and an attribute before
+the doc comment of its item. It prints each such line. The status is 0 where there is none. FOLDER is the repository to look at.
 """
 
 import re
@@ -35,8 +31,8 @@ def main(root):
     for file in sorted({it for pattern in READ for it in root.glob(pattern)}):
         for number, fault in faults(file.read_text(encoding="utf-8").split("\n")):
             print(f"{file.relative_to(root)}:{number}: {fault}")
-            wrong += 1
-    return 1 if wrong else 0
+            wrong = 1
+    return wrong
 
 
 if __name__ == "__main__":

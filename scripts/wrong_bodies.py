@@ -1,14 +1,12 @@
-"""Wrong bodies as edits: where each changes the source, which function it is of, and what a check says of that function.
+"""Wrong bodies as edits: which functions each changes, and what a check says of these.
 
-An edit stands in its function's place, or in a twin beside it: a copy of the function under another name, with the same
-contract and the same answers, which nothing calls. So a twin is refused where the function itself would be, and no other
-function waits for it.
+An edit stands in its function's place, or in a twin beside it: a copy of the function under another name, with the same contract and the
+same answers, which nothing calls. So a twin is refused where the function itself would be, and no other function waits for it.
 
-Answers are written for the function as it is. One that no longer applies to a wrong body says nothing of its contract, so it is
-left out, and its goal left to the prover's search.
+Answers are written for the function as it is. One that no longer applies to a wrong body says nothing of its contract, so it is left out,
+and its goal left to the prover's search.
 """
 
-import difflib
 import functools
 import re
 import shutil
@@ -16,18 +14,15 @@ from dataclasses import dataclass, field
 from enum import Enum
 from pathlib import Path
 
+from sources import BLOCKS, TYPES, head_of, items, members
+
 # the first line of a definition, a lemma or an answer
-LEMMA = re.compile(r"^(?:(?:pub|abbrev|unfoldable|opaque|private) )*(?:(record|data) )?([^\s:(){},]+)[^=]*?:(?=\s|$)")
-FUNCTION = re.compile(r"^(\s*)(?:pub(?:\([^)]*\))?\s+)?(?:(?:const|unsafe|extern \"C\")\s+)*fn\s+(\w+)")
-IMPL = re.compile(r"^(?:unsafe\s+)?impl\b(.*)")
-# how many lines the header of an impl takes at most
-HEADER_LINES = 12
-TYPE = re.compile(r"^(?:pub(?:\([^)]*\))?\s+)?(?:struct|enum)\s+(\w+)", re.M)
+LEMMA = re.compile(r"^(?:(?:pub|abbrev|unfoldable|opaque|private) )*(?:(?:record|data) )?([^\s:(){},]+)[^=]*?:(?=\s|$)")
 
 
 @dataclass(frozen=True)
 class Function:
-    """A function's place in a source file: lines from `first` to before `end`, counted from 0.
+    """A function's place in a source file: lines from `first`, with its comments and attributes, to before `end`, counted from 0.
 
     It is free where it belongs to no trait and to no cycle of calls, so that a twin may stand beside it.
     """
@@ -51,8 +46,7 @@ class Function:
         places = [f"{it}{self.name}" for it in ("", "fn::")]
         own, closure = [f"{self.owner}::{it}" if self.owner else "::".join((*self.module, it)) for it in places]
         if self.owner:
-            own, closure, path = f"::{own}", f"::{closure}", f"::{path}"
-            return path.endswith(own) or f"{closure}::" in path
+            return f"::{path}".endswith(f"::{own}") or f"::{closure}::" in f"::{path}"
         return path == own or path.startswith(f"{closure}::")
 
 
@@ -63,7 +57,7 @@ def module_of(file):
 
 
 def owner_of(header):
-    """Returns how the prover names the impl with this header: `Type`, or type, trait and the trait's arguments together, as `FaultFromAllocError`.
+    """Returns how the prover names the impl with this header: `Type`, or type, trait and its arguments, as `FaultFromAllocError`.
 
     The impl's own parameters are left out, as `O` of `impl<O> Reader<Input, O> for Lines`, which is `LinesReaderInput`.
     """
@@ -87,54 +81,26 @@ def parted(header):
 
 @functools.cache
 def functions_of(file, text):
-    """Returns a source file's functions, by the layout that rt fmt gives it: a body ends at a brace as far in as its `fn`."""
-    found, owner, is_of_trait, lines = [], "", False, text.split("\n")
-    for place, line in enumerate(lines):
-        if line.startswith("}"):
-            owner, is_of_trait = "", False
-        begins = IMPL.match(line)
-        if begins:
-            header = " ".join(lines[place : place + HEADER_LINES]).split("{")[0].partition("impl")[2]
-            owner, is_of_trait = owner_of(header), " for " in header
-        found_here = FUNCTION.match(line)
-        if found_here:
-            indent, name = found_here.groups()
-            first = place
-            while first and lines[first - 1].lstrip().startswith(("#[", "//")):
-                first -= 1
-            end = end_of(lines, place, indent)
-            is_free = not is_of_trait and bool(owner) == bool(indent) and not calls_itself(lines[first:end], owner, name)
-            found.append(Function(module_of(file), owner if indent else "", name, first, end, is_free))
+    """Returns a source file's functions."""
+    lines, found = text.split("\n"), []
+    for item in items(lines):
+        header = head_of(lines, item) if item.kind in BLOCKS else ""
+        owner = owner_of(header.removeprefix("unsafe ").removeprefix("impl")) if item.kind == "impl" else ""
+        for it in members(lines, item) if header else [item]:
+            if it.kind == "fn":
+                first = it.first
+                while first and lines[first - 1].lstrip().startswith(("#[", "//")):
+                    first -= 1
+                is_of_trait = " for " in header or item.kind == "trait"
+                is_free = not is_of_trait and not calls_itself("\n".join(lines[first : it.end]), owner, it.name)
+                found.append(Function(module_of(file), owner, it.name, first, it.end, is_free))
     return found
 
 
-def calls_itself(lines, owner, name):
+def calls_itself(text, owner, name):
     """Returns whether a function may call itself, or is a part of a cycle of calls."""
-    text = "\n".join(lines)
     prefix = rf"(?:\bself\.|\bSelf::|\b{owner}::)" if owner else r"(?<![\w.:])(?<!fn )(?:(?:crate|super|self)::(?:\w+::)*)?"
     return "#[cycle" in text or bool(re.search(rf"{prefix}{name}\(", text))
-
-
-def end_of(lines, first, indent):
-    if lines[first].rstrip().endswith("}") and lines[first].count("{") == lines[first].count("}"):
-        return first + 1
-    for place in range(first + 1, len(lines)):
-        if lines[place].rstrip() == indent + "}":
-            return place + 1
-        other = FUNCTION.match(lines[place])
-        if other and len(other[1]) <= len(indent):
-            return place
-    return len(lines)
-
-
-@dataclass(frozen=True)
-class Hunk:
-    """Lines of a file, from `first` to before `end`, and what stands in their place."""
-
-    file: str
-    first: int
-    end: int
-    lines: tuple
 
 
 class BadEdit(Exception):
@@ -143,15 +109,15 @@ class BadEdit(Exception):
 
 @dataclass(eq=False)
 class Edit:
-    """A wrong body: hunks of the crate's source, and the functions that they lie in.
+    """A wrong body: the texts of the source files that it changes, and in each the functions that it changes, with their new lines.
 
-    Where a hunk lies between functions, as of a constant or a type, it may change what other edits mean.
+    What it changes between functions, as a constant or a type, may change what other edits mean.
     """
 
     path: Path
     folder: Path
-    hunks: list = field(default_factory=list)
-    functions: set = field(default_factory=set)
+    texts: dict
+    bodies: dict = field(default_factory=dict)
     is_within_functions: bool = True
     # the functions that it stands in where it is tried: its own, or a twin
     standing: set = field(default_factory=set)
@@ -163,26 +129,38 @@ class Edit:
         return self.path.name
 
     @property
+    def functions(self):
+        return {function.key for changed in self.bodies.values() for function, _ in changed}
+
+    @property
     def asked(self):
         """The functions that it stands in, as a check is asked for them."""
         return {f"{owner}::{name}" if owner else "::".join((*module, name)) for module, owner, name in self.standing}
 
     @functools.cached_property
     def twinned(self):
-        """The function that it is of, where a twin of it may stand beside it."""
-        return twinned(self, self.folder) if self.is_within_functions else None
+        """The function that it is of, where a twin beside it means the same: it is free, and no other file of the proofs speaks of its own
+        ones."""
+        own = [function for changed in self.bodies.values() for function, _ in changed]
+        if not self.is_within_functions or len(own) != 1 or not own[0].is_free or own[0].name == "main":
+            return None
+        answers = answer_folders(self.folder, own[0])
+        for file, text in proof_texts(self.folder).items():
+            if any(names_own(text, path) and place not in file.parents for place, path in answers):
+                return None
+        return own[0] if answers else None
 
 
 def read_edit(path, folder):
-    """Reads an edit: lines `file: src/F.rt`, and pairs `old: TEXT` and `new: TEXT`, each old text standing once in what the pairs before it made."""
-    texts, made, file, old = {}, {}, None, None
+    """Reads an edit: lines `file: src/F.rt`, and pairs `old: TEXT` and `new: TEXT`, each old text standing once in what those before it
+    made."""
+    made, file, old = {}, None, None
     for line in path.read_text(encoding="utf-8").split("\n"):
         if line.startswith("file: "):
             file = line[len("file: ") :].strip()
             if not re.fullmatch(r"src/[\w/]+\.rt", file) or not (folder / file).is_file():
                 raise BadEdit(f"there is no source file {file}")
-            texts.setdefault(file, (folder / file).read_text(encoding="utf-8"))
-            made.setdefault(file, texts[file])
+            made.setdefault(file, text_of(folder, file))
         elif line.startswith("old: "):
             old = line[len("old: ") :]
         elif line.startswith("new:"):
@@ -192,39 +170,53 @@ def read_edit(path, folder):
             if times != 1:
                 raise BadEdit(f"its old text stands {times} times in {file}, and not once: {old}")
             made[file], old = made[file].replace(old, line[len("new:") :].removeprefix(" ")), None
-    edit = Edit(path, folder)
-    for file, text in texts.items():
-        functions = functions_of(file, text)
-        for hunk in hunks_of(file, text.split("\n"), made[file].split("\n")):
-            around = {it.key for it in functions if it.first <= hunk.first and max(hunk.end, hunk.first + 1) <= it.end}
-            edit.hunks.append(hunk)
-            edit.functions |= around
-            edit.is_within_functions &= bool(around)
-    if not edit.hunks:
+    edit = Edit(path, folder, {it: text for it, text in made.items() if text != text_of(folder, it)})
+    if not edit.texts:
         raise BadEdit("it changes nothing")
+    for it, text in edit.texts.items():
+        edit.bodies[it], is_within = changed_functions(it, text_of(folder, it), text)
+        edit.is_within_functions &= is_within
     return edit
 
 
-def hunks_of(file, old, new):
-    """Returns where the lines differ, looked for between the first and the last that do."""
-    alike = [next((it for it, (a, b) in enumerate(zip(*pair)) if a != b), min(len(old), len(new))) for pair in ((old, new), (old[::-1], new[::-1]))]
-    first, last = alike[0], min(alike[1], min(len(old), len(new)) - alike[0])
-    matcher = difflib.SequenceMatcher(None, old[first : len(old) - last], new[first : len(new) - last], autojunk=False)
-    return [Hunk(file, i + first, j + first, tuple(new[k + first : m + first])) for tag, i, j, k, m in matcher.get_opcodes() if tag != "equal"]
+def text_of(folder, file):
+    return (folder / file).read_text(encoding="utf-8")
+
+
+def changed_functions(file, old, new):
+    """Returns the functions that differ in two texts of a file, with their new lines, and whether nothing else differs."""
+    functions, others = functions_of(file, old), functions_of(file, new)
+    old, new = old.split("\n"), new.split("\n")
+    grown = len(new) - len(old)
+    if [it.key for it in functions] == [it.key for it in others]:
+        pairs = [(it, new[other.first : other.end]) for it, other in zip(functions, others)]
+    else:
+        # a function more stands within the lines of another one
+        first = next((place for place, pair in enumerate(zip(old, new)) if pair[0] != pair[1]), 0)
+        pairs = [(it, new[it.first : it.end + grown]) for it in functions if it.first <= first < it.end]
+    changed = [(it, lines) for it, lines in pairs if lines != old[it.first : it.end]]
+    return changed, with_lines(old, [(it.first, it.end, lines) for it, lines in changed]) == "\n".join(new)
+
+
+def with_lines(lines, changes):
+    """Returns a text in which these lines, from a first to before an end, are others."""
+    lines = [*lines]
+    for first, end, others in sorted(changes, key=lambda it: it[:2], reverse=True):
+        lines[first:end] = others
+    return "\n".join(lines)
 
 
 def applied(edits, folder):
     """Returns the texts of the files that these edits, which don't meet, change together."""
-    texts = {}
     for edit in edits:
         edit.standing = edit.functions
-    for file in sorted({hunk.file for edit in edits for hunk in edit.hunks}):
-        lines = (folder / file).read_text(encoding="utf-8").split("\n")
-        hunks = [hunk for edit in edits for hunk in edit.hunks if hunk.file == file]
-        for hunk in sorted(hunks, key=lambda it: -it.first):
-            lines[hunk.first : hunk.end] = hunk.lines
-        texts[file] = "\n".join(lines)
-    return texts
+    if len(edits) == 1:
+        return edits[0].texts
+    changes = {}
+    for edit in edits:
+        for file, changed in edit.bodies.items():
+            changes.setdefault(file, []).extend((it.first, it.end, lines) for it, lines in changed)
+    return {file: with_lines(text_of(folder, file).split("\n"), those) for file, those in changes.items()}
 
 
 @functools.cache
@@ -233,27 +225,29 @@ def proof_texts(folder):
     return {it: it.read_text(encoding="utf-8") for part in ("specs", "proofs") for it in sorted((folder / part).rglob("*.antt"))}
 
 
+@functools.cache
+def modules_of_types(folder):
+    """Returns the modules of the crate that have a type of a name, by names."""
+    found = {}
+    for file in (folder / "src").rglob("*.rt"):
+        for it in items(file.read_text(encoding="utf-8").split("\n")):
+            if it.kind in TYPES:
+                found.setdefault(it.name, set()).add(module_of(file.relative_to(folder)))
+    return found
+
+
 def answer_folders(folder, function):
-    """Returns the folders of proofs/ for a function's answers and for its closures', and its path in words of the proofs; none for a method of a type of another crate."""
+    """Returns the folders of proofs/ for a function's answers and for its closures', each with its path in words of the proofs.
+
+    A method of a type of another crate has none.
+    """
     module = function.module
     if function.owner:
-        modules = {module_of(it.relative_to(folder)) for it in (folder / "src").rglob("*.rt") if function.owner in TYPE.findall(it.read_text(encoding="utf-8"))}
+        modules = modules_of_types(folder).get(function.owner, ())
         if len(modules) != 1:
             return []
-        module = (*modules.pop(), function.owner)
+        module = (*[*modules][0], function.owner)
     return [(folder / "proofs" / Path(*places), ".".join(places)) for places in ((*module, function.name), (*module, "fn", function.name))]
-
-
-def twinned(edit, folder):
-    """Returns the function that an edit is of, where a twin beside it means the same: it is free, and no other file of the proofs speaks of its own ones."""
-    own = [it for file in sorted({it.file for it in edit.hunks}) for it in functions_of(file, (folder / file).read_text(encoding="utf-8")) if it.key in edit.functions]
-    if len(own) != 1 or not own[0].is_free or own[0].name == "main":
-        return None
-    answers = answer_folders(folder, own[0])
-    for file, text in proof_texts(folder).items():
-        if any(names_own(text, path) and place not in file.parents for place, path in answers):
-            return None
-    return own[0] if answers else None
 
 
 def names_own(text, path):
@@ -264,53 +258,19 @@ def names_own(text, path):
 
 
 def with_twins(edits, folder):
-    """Returns the texts of the files in which each of these edits stands in a twin beside its function, and the folders of answers to be copied for it, with the change of their text."""
-    texts, answers, beside = {}, [], {}
+    """Returns the texts of the files in which each of these edits stands in a twin beside its function, and the folders of answers to be
+    copied for it, with the change of their text."""
+    changes, answers = {}, []
     for number, edit in enumerate(edits):
-        function, file = edit.twinned, edit.hunks[0].file
-        lines = (folder / file).read_text(encoding="utf-8").split("\n")
-        for hunk in sorted(edit.hunks, key=lambda it: -it.first):
-            lines[hunk.first : hunk.end] = hunk.lines
-        grown = sum(len(it.lines) - (it.end - it.first) for it in edit.hunks)
+        ((file, ((function, lines),)),) = edit.bodies.items()
         name = f"{function.name}_twin_{number}"
-        twin = re.sub(rf"\bfn {function.name}\b", f"fn {name}", "\n".join(lines[function.first : function.end + grown]), count=1)
-        beside.setdefault(file, []).append((function.end, ["", *twin.split("\n")]))
+        twin = re.sub(rf"\bfn {function.name}\b", f"fn {name}", "\n".join(lines), count=1)
+        changes.setdefault(file, []).append((function.end, function.end, ["", *twin.split("\n")]))
         edit.standing = {(function.module, function.owner, name)}
         for place, path in answer_folders(folder, function):
             words = re.compile(rf"(\bproofs|\bspecs\.contracts)\.{re.escape(path)}(?!\w)"), rf"\1.{path[: -len(function.name)]}{name}"
             answers += [(place, place.with_name(name), words, edit.left_out)] if place.is_dir() else []
-    for file, twins in beside.items():
-        lines = (folder / file).read_text(encoding="utf-8").split("\n")
-        for end, twin in sorted(twins, key=lambda it: -it[0]):
-            lines[end:end] = twin
-        texts[file] = "\n".join(lines)
-    return texts, answers
-
-
-def answers_of(text):
-    """Returns the lines of a file of answers in parts, each with its name: one for each answer, and before them one of the imports, named None."""
-    parts = [(None, [])]
-    for line in text.split("\n"):
-        found = LEMMA.match(line)
-        if found and found[2] != parts[-1][0]:
-            parts.append((found[2], []))
-        parts[-1][1].append(line)
-    return parts
-
-
-def answer_at(text, line):
-    """Returns the name of the answer that stands on a line of a file of answers, None where it is an import."""
-    for name, lines in answers_of(text):
-        line -= len(lines)
-        if line < 0:
-            return name
-    return None
-
-
-def without_answers(text, names):
-    """Returns a file of answers without those with these names, or None where none is left."""
-    left = [(name, lines) for name, lines in answers_of(text) if name not in names]
-    return "\n".join(line for _, lines in left for line in lines) + "\n" if len(left) > 1 else None
+    return {file: with_lines(text_of(folder, file).split("\n"), those) for file, those in changes.items()}, answers
 
 
 def copy_answers(answers, folder, room):
@@ -326,13 +286,28 @@ def copy_answers(answers, folder, room):
     return made
 
 
+def by_answer(text):
+    """Returns the lines of a file of answers, each with the name of the answer that it is of, None for one of the imports."""
+    found, name = [], None
+    for line in text.split("\n"):
+        name = it[1] if (it := LEMMA.match(line)) else name
+        found.append((name, line))
+    return found
+
+
+def answer_at(text, line):
+    """Returns the name of the answer that stands on a line of a file of answers, None where it is an import."""
+    names = [name for name, _ in by_answer(text)]
+    return names[line] if line < len(names) else None
+
+
 def write_answers(file, text, names):
     """Writes a file of answers without those with these names; it goes where none is left."""
-    text = without_answers(text, names) if names else text
-    if text is None:
-        file.unlink()
+    left = [(name, line) for name, line in by_answer(text) if name not in names]
+    if any(name for name, _ in left) or not names:
+        file.write_text("\n".join(line for _, line in left), encoding="utf-8")
     else:
-        file.write_text(text, encoding="utf-8")
+        file.unlink()
 
 
 class Verdict(Enum):
@@ -344,7 +319,7 @@ class Verdict(Enum):
 
 
 # An error at a place of a file; the label, where there is one, is the declaration that antt refused.
-PLACED = re.compile(r"^(?P<note>note: )?(?:\./)?(?P<file>\S+?):(?P<line>\d+):\d+: (?P<said>.*)")
+PLACED = re.compile(r"^(?P<note>note: )?(?:\./)?(?P<file>\S+?):(?P<line>\d+):\d+: (?P<said>.*)", re.M)
 UNREAD = re.compile(r"is not in scope|has no field|is no name|operand is missing|expected the end|cannot continue")
 WAITS = re.compile(r"it calls (.*), which (?:is|are) not proved")
 
@@ -355,27 +330,25 @@ class Outcome:
     def __init__(self, said, texts, answers=None):
         # the texts of sources and of answers that were checked in place of the crate's own
         self.texts, self.answers = texts, answers or {}
-        lines = said.split("\n")
         self.functions = dict(re.findall(r"^fn \w+::(\S+): (.*)$", said, re.M))
-        self.placed = [found.groupdict() for found in map(PLACED.match, lines) if found]
+        self.placed = [(bool(it["note"]), it["file"], int(it["line"]) - 1, it["said"]) for it in PLACED.finditer(said)]
         only = re.search(r"^only=(\d+) proved=(\d+)", said, re.M)
         self.is_proved = only[1] == only[2] if only else bool(re.search(r"^logic=proved ", said, re.M))
         self.has_verdict = bool(only or re.search(r"^logic=", said, re.M))
-        self.last = next((it for it in reversed(lines) if it.strip()), "nothing was said")
+        self.last = next((it for it in reversed(said.split("\n")) if it.strip()), "nothing was said")
 
     def unread(self):
-        """Returns the places in the source that the prover could not read."""
+        """Returns the places in the source that the prover could not read: each file, line and what was said."""
         found = []
-        for it in self.placed:
-            said = re.match(r"error(?:\[[^\]]*\])?: (?:(`[^`]*`): )?(.*)", it["said"])
-            if said and it["file"].startswith("src/") and (not said[1] or UNREAD.search(re.sub(r"`[^`]*`", "", said[2]))):
-                found.append((it["file"], int(it["line"]) - 1, f"{it['file']}:{it['line']}: {it['said']}"))
+        for _, file, line, words in self.placed:
+            said = re.match(r"error(?:\[[^\]]*\])?: (?:(`[^`]*`): )?(.*)", words)
+            if said and file.startswith("src/") and (not said[1] or UNREAD.search(re.sub(r"`[^`]*`", "", said[2]))):
+                found.append((file, line, words))
         return found
 
     def unread_edits(self, edits):
         """Returns the edits in whose functions such a place lies; none where it lies in all or in no one's."""
-        places = [(file, line) for file, line, _ in self.unread()]
-        found = [it for it in edits if any(file == name and span.first <= line < span.end for file, line in places for name, span in self.spans(it))]
+        found = [it for it in edits if any(is_within(self.spans(it), *place[:2]) for place in self.unread())]
         return found if len(found) < len(edits) else []
 
     def spans(self, edit):
@@ -388,17 +361,13 @@ class Outcome:
 
     def goals_in(self, spans):
         """Returns what the check says of goals within these functions that it left open."""
-        return [
-            it["said"]
-            for it in self.placed
-            if it["note"] and "it is not proved" in it["said"]
-            if any(file == it["file"] and span.first < int(it["line"]) <= span.end for file, span in spans)
-        ]
+        open_goals = [it[1:] for it in self.placed if it[0] and "it is not proved" in it[3]]
+        return [said for file, line, said in open_goals if is_within(spans, file, line)]
 
     def refusals(self, paths):
         """Returns what the check refused in the functions' own files of proofs/: each file, line and what was said."""
-        errors = [it for it in self.placed if not it["note"] and it["said"].startswith("error")]
-        return [(it["file"], int(it["line"]) - 1, it["said"]) for it in errors if "::".join(Path(it["file"]).parts[1:-1]) in paths]
+        errors = [it[1:] for it in self.placed if not it[0] and it[3].startswith("error")]
+        return [it for it in errors if "::".join(Path(it[0]).parts[1:-1]) in paths]
 
     def leave_out(self, edit):
         """Notes the edit's answers that the check refused, to be left out. Returns whether there are any that weren't left out before."""
@@ -420,7 +389,7 @@ class Outcome:
         """Returns the verdict on an edit of this check, and words on it."""
         where = self.unread()
         if where and not self.functions:
-            return Verdict.UNREAD, where[0][2]
+            return Verdict.UNREAD, placed_words(where[0])
         if not self.has_verdict:
             return Verdict.SILENT, f"the check gave no verdict: {self.last}"
         paths = self.paths(edit)
@@ -428,16 +397,21 @@ class Outcome:
         goals = self.goals_in(self.spans(edit)) + [it for it in said if "did not prove" in it]
         if goals:
             return Verdict.REFUSED, goals[0]
-        refusals, waits = self.refusals(paths), any(WAITS.search(text) for text in said)
-        if refusals and not waits:
-            file, line, words = refusals[0]
-            return Verdict.STALE, f"{file}:{line + 1}: {words}"
-        lacking = [it for it in said if "expected a measure" in it]
-        if lacking and not waits:
-            return Verdict.STALE, lacking[0]
+        stale = [*map(placed_words, self.refusals(paths)), *(it for it in said if "expected a measure" in it)]
+        if stale and not any(WAITS.search(text) for text in said):
+            return Verdict.STALE, stale[0]
         if not edit.functions and not self.is_proved:
             return Verdict.REFUSED, "it lies in no function"
         if self.is_proved or (said and all(text.startswith("proved") for text in said)):
             told = ", ".join(f"{file} {' '.join(sorted(names))}" for file, names in sorted(edit.left_out.items()))
             return Verdict.PROVED, f"once these answers are left out: {told}" if told else ""
         return Verdict.SILENT, said[0] if said else "the check doesn't name it"
+
+
+def is_within(spans, file, line):
+    return any(file == name and span.first <= line < span.end for name, span in spans)
+
+
+def placed_words(place):
+    file, line, said = place
+    return f"{file}:{line + 1}: {said}"

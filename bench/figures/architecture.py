@@ -10,12 +10,10 @@ import sys
 from pathlib import Path
 from typing import NamedTuple
 
-if not __package__:  # called as a file
-    sys.path.insert(0, str(Path(__file__).resolve().parents[2]))
+sys.path.insert(0, str(Path(__file__).resolve().parents[2]))
 
-from bench.tools.command_line import usage
 from bench.tools.lines import DARK, LEFT, LIGHT, WIDTH, stroke, text, whole
-from bench.tools.programs import ROOT
+from bench.tools.programs import ROOT, usage
 
 COLOURS = {**LIGHT, "proved": "#e3f5e7", "edge": "#1a7f37", "trusted": "#fdf0e1", "limit": "#a04100", "box": "#ffffff"}
 DARKER = {**DARK, "proved": "#0e2a17", "edge": "#3fb950", "trusted": "#33210f", "limit": "#ffa657", "box": "#0d1117"}
@@ -43,8 +41,8 @@ class Part(NamedTuple):
 
 PART_HEIGHT = 96
 ROW, LOWER = 226, 386
-READER = Part(44, ROW, 150, "Reader", "bytes to items", "cb_reader")
-INBOX = Part(226, ROW, 130, "Inbox", "a queue", "cb_inbox")
+READER = Part(44, ROW, 150, "Reader", "bytes to items", "cb_session")
+INBOX = Part(226, ROW, 130, "Inbox", "a queue", "cb_crew")
 HANDLER = Part(388, ROW, 150, "Handler", "of 1 to 16", "cb_crew")
 SESSION = Part(570, ROW, 150, "Session", "pure machine", "cb_peer")
 OUTBOX = Part(752, ROW, 144, "Outbox", "its writer", "cb_peers")

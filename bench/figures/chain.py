@@ -15,16 +15,13 @@ import sys
 import tempfile
 from pathlib import Path
 
-if not __package__:  # called as a file
-    sys.path.insert(0, str(Path(__file__).resolve().parents[2]))
+sys.path.insert(0, str(Path(__file__).resolve().parents[2]))
 
-from bench.tools.branches import Made, Marks, branch, faulty_on
-from bench.tools.command_line import usage
-from bench.tools.network import GENESIS, header_text
-from bench.tools.programs import built
+from bench.tools.basics import header_text
+from bench.tools.made_blocks import Marks
+from bench.tools.programs import built, usage
 from bench.tools.records import as_records, record
-from bench.tools.timed_plays import Play, Runs, behind, seconds_of
-from bench.tools.turns import RUNS, adopt, ended, in_turns
+from bench.tools.turns import RUNS, Play, Runs, adopt, behind, ended, in_turns, seconds_of
 
 LOW, HIGH = 100, 10_000
 # Each question, and how often it is asked.
@@ -76,9 +73,9 @@ class Ground:
 
     def __init__(self, height):
         self.marks = Marks()
-        blocks = branch(self.marks, GENESIS, height)
+        blocks = self.marks.branch(None, height)
         self.records = as_records(blocks)
-        self.tip = blocks[-1].name
+        self.tip = blocks[-1]
 
 
 class AtBoth:
@@ -96,28 +93,28 @@ class AtBoth:
 
 def headers(ground):
     """Headers on the tip, each beside the others."""
-    return b"".join(record(b"h", header_text(ground.tip, struct.pack("<I", mark) + bytes(28))) for mark in range(HEADERS))
+    return b"".join(record(b"h", header_text(ground.tip.header.name, struct.pack("<I", mark) + bytes(28))) for mark in range(HEADERS))
 
 
 def accepting(runs, both):
     """Blocks, each on the one before, so the height goes up from where it is named; and headers."""
     both.tell(f"{BLOCKS:,} blocks that extend the tip, with reading them", BLOCKS,
-              lambda ground: as_records(branch(ground.marks, ground.tip, BLOCKS)), 4 * RUNS)
+              lambda ground: as_records(ground.marks.branch(ground.tip, BLOCKS)), 4 * RUNS)
     both.tell(f"{HEADERS:,} headers, with reading them", HEADERS, headers, 4 * RUNS)
     count = 10 * BLOCKS
-    [took] = runs.seconds([behind(b"", as_records(branch(Marks(), GENESIS, count), b"s"))])
+    [took] = runs.seconds([behind(b"", as_records(Marks().branch(None, count), b"s"))])
     print(f"blocks that are read and judged by themselves: {count / took:,.0f} a second")
 
 
 def reorganisations(runs):
     """Ten blocks for eleven, again and again, beside as many blocks that extend the tip."""
     marks = Marks()
-    main = branch(marks, GENESIS, LOW)
+    main = marks.branch(None, LOW)
     ground = as_records(main)
-    extended = as_records(branch(marks, main[-1].name, 11 * SWITCHES))
+    extended = as_records(marks.branch(main[-1], 11 * SWITCHES))
     switched = []
     for _ in range(SWITCHES):
-        other = branch(marks, main[-11].name, 11)
+        other = marks.branch(main[-11], 11)
         switched.append(as_records(other))
         main = main[:-10] + other
     took, beside = runs.seconds([behind(ground, b"".join(switched)), behind(ground, extended)], 2 * RUNS)
@@ -128,51 +125,51 @@ def reorganisations(runs):
 def faults(count):
     """Blocks beside the tip that can't be connected, so many headers behind them, and a block on each, whose fault marks both."""
     marks = Marks()
-    main = branch(marks, GENESIS, LOW)
-    faulty = [faulty_on(marks, main[-2].name) for _ in range(FAULTS)]
-    triggers = as_records([Made(block.name, marks.take()) for block in faulty])
-    later = [record(b"h", header_text(main[-1].name, struct.pack("<I", mark) + bytes(28))) for mark in range(count)]
+    main = marks.branch(None, LOW)
+    faulty = [marks.faulty_on(main[-2]) for _ in range(FAULTS)]
+    triggers = as_records([marks.on(block) for block in faulty])
+    later = [record(b"h", header_text(main[-1].header.name, struct.pack("<I", mark) + bytes(28))) for mark in range(count)]
     return behind(as_records(main + faulty) + b"".join(later), triggers, FAULTS)
 
 
 def tried_on(ends_of, length, count):
     """So many faulty blocks on the ends of side branches that are as high as the tip, behind one on each, in turns."""
     marks = Marks()
-    main = branch(marks, GENESIS, length)
+    main = marks.branch(None, length)
     blocks, ends = ends_of(marks, length)
-    first = [faulty_on(marks, end) for end in ends]
-    tried = [faulty_on(marks, ends[i % len(ends)]) for i in range(count)]
+    first = [marks.faulty_on(end) for end in ends]
+    tried = [marks.faulty_on(ends[i % len(ends)]) for i in range(count)]
     return behind(as_records(main + blocks + first), as_records(tried), count, len(first))
 
 
 def one_end(marks, length):
-    side = branch(marks, GENESIS, length)
-    return side, [side[-1].name]
+    side = marks.branch(None, length)
+    return side, [side[-1]]
 
 
 def shared_ends(own):
     """Branches that part so many blocks below their ends."""
     def ends_of(marks, length):
-        stem = branch(marks, GENESIS, length - own)
-        ends = [branch(marks, stem[-1].name, own) for _ in range(ENDS)]
-        return sum(ends, stem), [end[-1].name for end in ends]
+        stem = marks.branch(None, length - own)
+        ends = [marks.branch(stem[-1], own) for _ in range(ENDS)]
+        return sum(ends, stem), [end[-1] for end in ends]
 
     return ends_of
 
 
 def two_sides(marks, length):
     """Branches that part at the first block."""
-    sides = [branch(marks, GENESIS, length) for _ in range(2)]
-    return sum(sides, []), [side[-1].name for side in sides]
+    sides = [marks.branch(None, length) for _ in range(2)]
+    return sum(sides, []), [side[-1] for side in sides]
 
 
 def overtaking(marks, sides, turns):
     """Two blocks on the lower of two branches, again and again; the first time it is one, since they are as high. The last is the tip."""
-    ends = [side[-1].name for side in sides]
+    ends = [side[-1] for side in sides]
     blocks = []
     for i in range(turns):
-        pair = branch(marks, ends[(i + 1) % 2], 2 if i else 1)
-        ends[(i + 1) % 2] = pair[-1].name
+        pair = marks.branch(ends[(i + 1) % 2], 2 if i else 1)
+        ends[(i + 1) % 2] = pair[-1]
         blocks += pair
     return blocks
 
@@ -180,48 +177,48 @@ def overtaking(marks, sides, turns):
 def far_turns():
     """Branches from the first block that overtake each other."""
     marks = Marks()
-    sides = [branch(marks, GENESIS, FAR) for _ in range(2)]
+    sides = [marks.branch(None, FAR) for _ in range(2)]
     return behind(as_records(sum(sides, [])), as_records(overtaking(marks, sides, FAR_TURNS)))
 
 
 def near_turns():
     """Branches that overtake each other NEAR // 2 to NEAR + NEAR // 2 deep, and then others on the tip; beside branches that don't."""
     marks = Marks()
-    whole, ground, tip, low = [], [], GENESIS, GENESIS
+    whole, ground, tip, low = [], [], None, None
     for _ in range(ROUNDS):
-        sides = [branch(marks, tip, NEAR // 2) for _ in range(2)]
+        sides = [marks.branch(tip, NEAR // 2) for _ in range(2)]
         turns = overtaking(marks, sides, NEAR + 1)
         whole += sum(sides, []) + turns
-        tip = turns[-1].name
-        still = [branch(marks, low, NEAR // 2) for _ in range(2)]
+        tip = turns[-1]
+        still = [marks.branch(low, NEAR // 2) for _ in range(2)]
         ground += sum(still, [])
-        low = still[0][-1].name
+        low = still[0][-1]
     return Play(as_records(whole), as_records(ground))
 
 
 def small_turns(count):
     """Two blocks on the tip, and then a second one on the later of them, which puts the first one off: so often, each on the last."""
-    marks, tip, blocks = Marks(), GENESIS, []
+    marks, tip, blocks = Marks(), None, []
     for _ in range(count):
-        [first] = branch(marks, tip, 1)
-        other = branch(marks, tip, 2)
+        [first] = marks.branch(tip, 1)
+        other = marks.branch(tip, 2)
         blocks += [first, *other]
-        tip = other[-1].name
+        tip = other[-1]
     return behind(b"", as_records(blocks))
 
 
 def extending(is_beside):
     """Blocks that extend the tip; now and then a branch of one block beside it is tried, so that one is kept all the time."""
     marks = Marks()
-    main = branch(marks, GENESIS, LOW)
-    ground, records, below, tip, refused = as_records(main), [], main[-2].name, main[-1].name, 0
+    main = marks.branch(None, LOW)
+    ground, records, below, tip, refused = as_records(main), [], main[-2], main[-1], 0
     for _ in range(EXTENDED // BEHIND):
         if is_beside:
-            side = Made(below, marks.take())
-            records += [side, faulty_on(marks, side.name)]
+            side = marks.on(below)
+            records += [side, marks.faulty_on(side)]
             refused += 1
-        records += branch(marks, tip, BEHIND)
-        below, tip = records[-2].name, records[-1].name
+        records += marks.branch(tip, BEHIND)
+        below, tip = records[-2], records[-1]
     return behind(ground, as_records(records), refused)
 
 
@@ -269,9 +266,9 @@ class Beside:
 def memory(runs):
     """What twice as many blocks take more: alone, and beside a branch of a block that was tried low down."""
     marks, count = Marks(), 2 * HIGH
-    blocks = branch(marks, GENESIS, 2 * count)
-    side = Made(GENESIS, marks.take())
-    tried = as_records([blocks[0], side, faulty_on(marks, side.name)])
+    blocks = marks.branch(None, 2 * count)
+    side = marks.on(None)
+    tried = as_records([blocks[0], side, marks.faulty_on(side)])
     alone, beside = (runs.memory(low + as_records(blocks[1:count])) for low in (as_records(blocks[:1]), tried))
     twice, twice_beside = (runs.memory(low + as_records(blocks[1:])) for low in (as_records(blocks[:1]), tried))
     print(f"memory: {(twice - alone) / count:,.0f} bytes for each block of {len(blocks[0].text)} bytes, "

@@ -2,7 +2,7 @@
 """Measures the time and the memory of the built programs, beside `openssl dgst -sha256` and beside programs of before:
 python3 bench/figures/commands.py [PROGRAM] [SOUND] [--before FOLDER]
 
-It needs the program (crates/cbrelay/out/cbrelay, as ./build leaves it), the C library (./build --library), with which it makes a program that
+It needs the program, the C library (./build --library), with which it makes a program that
 tells whether a block is sound (bench/library/sound.c), cc, openssl, python3 and Linux, and takes some five minutes. First it prints a table of
 time and memory, with `--before` for both sets of programs and how they compare; then what a block takes in memory, and then how
 the time grows and compares with openssl's.
@@ -16,15 +16,13 @@ import sys
 import tempfile
 from pathlib import Path
 
-if not __package__:  # called as a file
-    sys.path.insert(0, str(Path(__file__).resolve().parents[2]))
+sys.path.insert(0, str(Path(__file__).resolve().parents[2]))
 
-from bench.tools.blocks import bare_block, block, usual_block
+from bench.tools.basics import envelope, pings, unknown
 from bench.tools.c_library import compiled, prefix_of
-from bench.tools.command_line import usage
-from bench.tools.messages import envelope, pings, unknown
-from bench.tools.programs import built
-from bench.tools.turns import HASHED, OPENSSL, SECONDS, Cost, adopt, ended, in_turns
+from bench.tools.made_blocks import bare_block, block, usual_block
+from bench.tools.programs import built, usage
+from bench.tools.turns import HASHED, OPENSSL, SECONDS, Bench, Cost, adopt, ended, in_turns
 
 # What the table compares takes turns as often as these seconds allow, if there are programs of before.
 TABLE_SECONDS = 16
@@ -73,29 +71,20 @@ class Programs:
         return Cost(cost.seconds - self.starts[word].seconds, cost.memory - self.starts[word].memory)
 
 
-class Bench:
+class Compared(Bench):
     """What is measured in one run: the programs, and the programs of before where they are given."""
 
     def __init__(self, programs, before, folder):
-        self.folder = folder
-        empty = self.write("empty", b"")
+        super().__init__(None, folder)
+        empty = self.write("empty")
         self.programs = Programs(*programs, empty)
         self.sets = [self.programs] + ([Programs(*before, empty)] if before else [])
-        self.zeros = self.write("zeros", b"")
-        os.truncate(self.zeros, HASHED)
-        start, hashed = in_turns((OPENSSL, empty), (OPENSSL, self.zeros))
-        self.openssl_start = start.seconds
-        rate = HASHED / (hashed.seconds - self.openssl_start)
+        self.openssl_start, rate = self.openssl()
+        self.zeros = os.path.join(folder, "zeros")
         print(f"SHA instructions of the processor: {sha_instructions()}")
         print(f"openssl dgst -sha256: {self.openssl_start * 1000:.1f} ms of start-up, and then {rate / 1e6:.0f} MB a second")
         starts = ", ".join(f"{word} {start.seconds * 1000:.1f}" for word, start in self.programs.starts.items())
         print(f"start-up in ms: {starts}", flush=True)
-
-    def write(self, name, data):
-        path = os.path.join(self.folder, name)
-        with open(path, "wb") as file:
-            file.write(data)
-        return path
 
     def costs(self, word, data, seconds):
         """What an input takes in each set of programs; each run has to end with status 0."""
@@ -228,7 +217,7 @@ def sound_before(top, folder):
 
 
 def main():
-    reader = usage(__doc__, program="the program, if not crates/cbrelay/out/cbrelay", sound="a program like bench/library/sound.c")
+    reader = usage(__doc__, program="the program, if not that of ./build", sound="a program like bench/library/sound.c")
     reader.add_argument("--before", metavar="FOLDER", help="what to compare with: its cbrelay and its library, as ./build leaves them")
     words = reader.parse_args()
     with tempfile.TemporaryDirectory() as folder:
@@ -236,7 +225,7 @@ def main():
         programs = built(words.program, "cbrelay"), os.path.abspath(sound)
         before = words.before and (built(None, "cbrelay", words.before), sound_before(words.before, folder))
         adopt()
-        bench = Bench(programs, before, folder)
+        bench = Compared(programs, before, folder)
         for part in (table, kept_blocks, block_speeds, message_speeds, block_growths, message_growths):
             part(bench)
         bench.growth("sim, 4,000,000 acts", "sim", acts(4_000_000), acts(8_000_000))

@@ -10,22 +10,20 @@ with std's fixed seed they would all begin at one group, or have the same tag to
 
 import ctypes
 import random
-import struct
 import subprocess
 import sys
 import tempfile
 import time
 from pathlib import Path
 
-if not __package__:  # called as a file
-    sys.path.insert(0, str(Path(__file__).resolve().parents[2]))
+sys.path.insert(0, str(Path(__file__).resolve().parents[2]))
 
 from bench.models.plain_compact import key_of, short_id
-from bench.tools.blocks import block_of, some_name, transaction, usual_block
-from bench.tools.c_library import cbrelay, load, prefix_of
-from bench.tools.command_line import usage
-from bench.tools.library_cases import listed
-from bench.tools.texts import compact_size, hash_twice
+from bench.models.plain_wire import compact_form, listed
+from bench.tools.basics import hash_twice
+from bench.tools.c_library import SOURCES, cbrelay, load, prefix_of
+from bench.tools.made_blocks import block_of, some_name, transaction, usual_block
+from bench.tools.programs import usage
 
 # How many ids a compact block has at the most, and how many transactions are known: few, and many.
 IDS, FEW, MANY = 16_666, 10_000, 100_000
@@ -35,32 +33,11 @@ USUAL, TURNS = 4_000, 15
 GROUP = 9
 HEADER, NONCE = bytes(80), 7
 KEY = key_of(HEADER, NONCE)
-SEARCH = r"""
-#include <stdint.h>
-#include <stdio.h>
-#include <stdlib.h>
-
-/* Tells the first ids whose hash in a table with std's seed has no bit of a mask. */
-int main(int words, char **word) {
-    uint32_t mask = strtoul(word[1], NULL, 10);
-    long left = atol(word[2]);
-    for (uint64_t id = 1; left > 0 && words == 3; id++) {
-        unsigned __int128 product = (unsigned __int128)(0x243f6a8885a308d3 ^ id) * (0x9e3779b97f4a7c15 ^ 16);
-        uint64_t folded = (uint64_t)product ^ (uint64_t)(product >> 64);
-        if (((uint32_t)(folded ^ folded >> 32) & mask) == 0) {
-            printf("%llu\n", (unsigned long long)id);
-            left--;
-        }
-    }
-    return 0;
-}
-"""
 
 
 def form(ids, header=HEADER, prefilled=()):
     """The payload of a compact block with these ids, and transactions that are prefilled at its beginning."""
-    short = compact_size(len(ids)) + b"".join(it.to_bytes(6, "little") for it in ids)
-    return header + struct.pack("<Q", NONCE) + short + compact_size(len(prefilled)) + b"".join(b"\0" + it for it in prefilled)
+    return compact_form(header, NONCE, ids, [(0, it) for it in prefilled])
 
 
 def known(count):
@@ -135,9 +112,8 @@ def groups_of(count):
 
 def searched(folder, count, mask):
     """Ids whose hashes have no bit of the mask."""
-    program, source = Path(folder, "search"), Path(folder, "search.c")
-    source.write_text(SEARCH, encoding="ascii")
-    subprocess.run(["cc", "-O2", "-o", program, source], check=True)
+    program = Path(folder, "search")
+    subprocess.run(["cc", "-O2", "-o", program, SOURCES / "search.c"], check=True)
     return [int(line) for line in subprocess.run([program, str(mask), str(count)], capture_output=True, check=True).stdout.split()]
 
 

@@ -1,22 +1,25 @@
 #!/usr/bin/env python3
 """Measures a crew in threads: items per second by handlers, beside one loop and beside one queue under a lock, and what idling costs:
-python3 bench/figures/crew.py
+python3 bench/figures/crew.py [--stress RUNS]
 
-It needs the built program crates/bench_crew/out/bench_crew, as ./build bench_crew leaves it there, and takes about a minute. The
-times are of the clock, as the program tells them of its own serving, each the least of some runs that take turns. They mean
+It needs the built program bench/programs/bench_crew/out/bench_crew, as ./build bench_crew leaves it there, and takes about a minute.
+The times are of the clock, as the program tells them of its own serving, each the least of some runs that take turns. They mean
 something only where no one else works on the machine: four handlers and their readers want four idle cores.
+
+With --stress nothing is measured, and every list is looked at, run after run: each serves 64 peers by 16 handlers, whose readers end and
+open again 20 times, 100,800 items in all, once for each capacity of the inboxes: 1, 2 and 1,024. The program computes each list's running
+number and hash anew, and tells whether they are right. A run that doesn't end within two minutes is a failure.
 """
 
 import os
 import subprocess
 import sys
+import time
 from pathlib import Path
 
-if not __package__:  # called as a file
-    sys.path.insert(0, str(Path(__file__).resolve().parents[2]))
+sys.path.insert(0, str(Path(__file__).resolve().parents[2]))
 
-from bench.tools.command_line import usage
-from bench.tools.programs import built, path_of
+from bench.tools.programs import built, path_of, usage
 
 PROGRAM = path_of("bench_crew")
 RUNS = 3
@@ -26,6 +29,8 @@ FREE_ITEMS, DEAR_ITEMS, DEAR_MICROSECONDS = 5_000, 1_000, 10
 # By how many items and rounds the cost of a round is found.
 TRIED_ITEMS, TRIED_ROUNDS = 20_000, 20
 IDLE_MILLISECONDS = 2_000
+# Of the runs in which every list is looked at: handlers, capacities, connections of so many items each, and seconds.
+MOST_HANDLERS, CAPACITIES, CONNECTIONS, ITEMS, SECONDS = 16, (1, 2, 1_024), 21, 75, 120
 
 
 def ended(line):
@@ -94,9 +99,29 @@ def idle(handlers):
     print(f"idle, {PEERS} peers and {handlers} handlers: {cost * 1e3:.2f} ms of processor time a second, to about 1 ms")
 
 
+def stressed(runs):
+    """Looks at every list of so many runs. The exit status comes back."""
+    lines = "".join(f"crew {PEERS} {MOST_HANDLERS} {capacity} {ITEMS} {CONNECTIONS} 1\n" for capacity in CAPACITIES)
+    right = "".join(f"peer {peer} connections {CONNECTIONS} items {CONNECTIONS * ITEMS} right\n" for peer in range(PEERS)) * len(CAPACITIES)
+    began = time.monotonic()
+    for run in range(1, runs + 1):
+        ran = subprocess.run([PROGRAM], input=lines, capture_output=True, text=True, timeout=SECONDS, check=False)
+        if (ran.returncode, ran.stdout) != (0, right):
+            wrong = [line for line in ran.stdout.splitlines() if not line.endswith(" right")]
+            print(f"run {run} ended with {ran.returncode}: {wrong[:5]}")
+            return 1
+    lists = runs * len(CAPACITIES) * PEERS * CONNECTIONS
+    print(f"{runs} runs, {lists:,} lists, each right, in {time.monotonic() - began:.0f} s")
+    return 0
+
+
 def main():
-    usage(__doc__).parse_args()
+    reader = usage(__doc__)
+    reader.add_argument("--stress", type=int, metavar="RUNS", help="look at every list of so many runs")
+    given = reader.parse_args()
     built(PROGRAM, "bench_crew")
+    if given.stress:
+        return stressed(given.stress)
     print(f"{os.cpu_count()} processors, load {os.getloadavg()[0]:.2f} before the first run")
     rounds = rounds_of(DEAR_MICROSECONDS)
     compare("a work of no cost", FREE_ITEMS, 0)

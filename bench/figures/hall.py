@@ -13,18 +13,15 @@ import sys
 import tempfile
 from pathlib import Path
 
-if not __package__:  # called as a file
-    sys.path.insert(0, str(Path(__file__).resolve().parents[2]))
+sys.path.insert(0, str(Path(__file__).resolve().parents[2]))
 
-from bench.models.plain_block import Block, Tx, paying, sized
-from bench.tools.blocks import NOBODY
-from bench.tools.command_line import usage
+from bench.models.plain_block import Block, paying, sized
+from bench.tools.basics import GENESIS
 from bench.tools.hall_play import asked, question_text, repeated
-from bench.tools.network import GENESIS
-from bench.tools.programs import built
+from bench.tools.made_blocks import NOBODY
+from bench.tools.programs import built, usage
 from bench.tools.records import record
-from bench.tools.timed_plays import Play, Runs, seconds_of
-from bench.tools.turns import RUNS, adopt
+from bench.tools.turns import RUNS, Play, Runs, adopt, seconds_of
 
 # How long journals are, and how many transactions wait in the pool and stand in a block.
 LOW, HIGH = 1_000, 900_000
@@ -51,11 +48,11 @@ class Pools:
     """A block that makes coins for all, transactions that spend them, and a block of the first of them."""
 
     def __init__(self):
-        coins = Tx(0, [], [1] * (WAITING + GIVEN))
+        coins = paying(0, [], [1] * (WAITING + GIVEN))
         self.low = Block(GENESIS, [coins])
         txs = [paying(place, [(coins.name, place)], [1]) for place in range(WAITING + GIVEN)]
         self.own, self.others = txs[:GIVEN], txs[GIVEN:]
-        self.block = Block(self.low.header.name, [Tx(1, [], [50])] + self.own)
+        self.block = Block(self.low.header.name, [paying(1, [], [50])] + self.own)
 
     def ground(self, pool, length):
         """A hall with these in its pool, and a journal so long."""
@@ -90,7 +87,7 @@ def blocks(runs, pools):
     names = [f"a block of {GIVEN:,} transactions over {name}" for name, _ in kinds]
     plays = [at_lengths(lambda length, pool=pool: pools.ground(pool, length), give, 1) for _, pool in kinds]
     bare, *others = tell_times(runs, names, plays, [1] * len(kinds), BLOCK_TURNS)
-    rate = runs.hashed_a_second()
+    rate = runs.openssl()[1]
     for (name, _), took in zip(kinds[1:], others):
         more = took - bare
         print(f"  over {name} {more * 1e3:,.2f} ms more than over an empty one, in which openssl hashes {more * rate / 1e6:,.2f} MB", flush=True)

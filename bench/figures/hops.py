@@ -1,7 +1,7 @@
 #!/usr/bin/env python3
 """Measures how a block hops from process to process: python3 bench/figures/hops.py [PROGRAM] [--only NAME] [--rounds N]
 
-It needs the built program (crates/cbrelay/out/cbrelay, as ./build leaves it), python3 and Linux, with 4,000 descriptors (`ulimit -n`), and
+It needs the program, python3 and Linux, with 4,000 descriptors (`ulimit -n`), and
 takes some ten minutes. All stands at this machine's loopback addresses, and the processes `cbrelay node` at their defaults.
 
 - small, full, half: 1, 3 and 8 nodes in a line, and a plain client at each end. One tells a block as a compact one, and the other, which wants
@@ -17,27 +17,21 @@ takes some ten minutes. All stands at this machine's loopback addresses, and the
 A part ends after its rounds, or after two minutes.
 """
 
-import resource
 import statistics
-import struct
 import sys
 import threading
 import time
 from pathlib import Path
 
-if not __package__:  # called as a file
-    sys.path.insert(0, str(Path(__file__).resolve().parents[2]))
+sys.path.insert(0, str(Path(__file__).resolve().parents[2]))
 
 from bench.figures.strangers import Crowd
-from bench.tools.command_line import usage
-from bench.tools.full_blocks import TXS, FullChain
-from bench.tools.messages import envelope
-from bench.tools.network import GENESIS
-from bench.tools.node_line import NodeLine, places_asked, short_form, short_told
-from bench.tools.node_scripts import GIVEN, mined
-from bench.tools.plain_peer import BLOCK
-from bench.tools.process_talk import NodeProcess
-from bench.tools.programs import built
+from bench.models import plain_wire as wire
+from bench.tools.basics import GENESIS
+from bench.tools.made_blocks import TXS, FullChain, mined
+from bench.tools.node_line import NodeLine, places_asked, short_told
+from bench.tools.process_talk import NodeProcess, many_descriptors
+from bench.tools.programs import built, usage
 
 # How long the lines are, how many blocks of each kind go through, how many before; how many seconds a part takes at the most, and what lies
 # between two small blocks.
@@ -58,7 +52,7 @@ class Hops:
 
     def seconds(self, block, lacking=()):
         """How long a block takes from the one to the other, and for how long the nodes' threads had a processor meanwhile."""
-        message, (request, answer) = short_form(block), places_asked(block, lacking)
+        message, (request, answer) = wire.compact(block, 7), places_asked(block, lacking)
         for peer in (self.source, self.sink):
             peer.pass_over()
         spent, began = self.line.computed(), time.monotonic()
@@ -80,9 +74,9 @@ class Hops:
         """Small blocks, behind which each node asks for the next ones by compact blocks. The last one's name and its height come back."""
         name = GENESIS
         for height in range(1, WARM + 1):
-            block = mined(name, height, GIVEN)
+            block = mined(name, height)
             name = block.header.name
-            self.source.send(envelope(b"block", block.text))
+            self.source.send(wire.block(block.text))
             self.line.until(lambda name=name: all(node.tip()[1] == name[::-1].hex() for node in self.line.nodes), "a block doesn't come")
         self.line.rest()
         return name, WARM
@@ -103,7 +97,7 @@ def small(hops, rounds):
     name, height = hops.warm()
     for _ in range(rounds):
         height += 1
-        block = mined(name, height, GIVEN)
+        block = mined(name, height)
         name = block.header.name
         yield hops.seconds(block)
         time.sleep(BREATH)
@@ -187,18 +181,17 @@ def followed(nodes, tip):
 
 def crowd(program):
     """Many peers of one node: some give a block, one after the other, and all others ask for it."""
-    most = resource.getrlimit(resource.RLIMIT_NOFILE)[1]
-    resource.setrlimit(resource.RLIMIT_NOFILE, (most, most))
+    many_descriptors()
     with NodeProcess(program, "--max-connections", str(SLOTS), seconds=LONGEST) as node:
-        peers = Crowd(node.port(), PEERS)
+        peers = Crowd(node.port, PEERS)
         peers.until(lambda peer: peer.ready)
-        node.until(lambda: sum(peer.phase == "ready" for peer in node.peers()) == PEERS)
+        node.until(lambda: node.ready() == PEERS)
         time.sleep(1)
         name, took, spent = GENESIS, [], node.computed()
         for place in range(GIVERS):
-            block = mined(name, place + 1, GIVEN)
+            block = mined(name, place + 1)
             name, giver = block.header.name, peers.peers[place]
-            giver.tells(BLOCK, name, envelope(b"block", block.text))
+            giver.tells(wire.BLOCK, name, wire.block(block.text))
             took.append(peers.until(lambda peer, name=name, giver=giver: peer is giver or name in peer.blocks))
         spent = (node.computed() - spent) / GIVERS
         print(f"crowd: a block of one of {PEERS} peers is every other's after {statistics.median(took) * 1e3:.0f} ms, at most "

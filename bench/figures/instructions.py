@@ -2,7 +2,7 @@
 """Counts the instructions of `cbrelay serve` for what a peer sends, and in which functions a ping takes them:
 python3 bench/figures/instructions.py [PROGRAM] [BEFORE]
 
-It needs the built program (crates/cbrelay/out/cbrelay, as ./build leaves it), valgrind, python3 and Linux, and takes a minute or two.
+It needs the program, valgrind, python3 and Linux, and takes a minute or two.
 Instructions are as valgrind's callgrind counts them, so other work on the machine changes nothing. Each figure is that of a conversation
 less that of one with half as many of what is counted, for each of the other half. A function's share is what it takes itself, without
 what it calls; the compiler puts many functions into their callers. With a second program, one of before, both are counted.
@@ -16,14 +16,14 @@ import tempfile
 from collections import Counter
 from pathlib import Path
 
-if not __package__:  # called as a file
-    sys.path.insert(0, str(Path(__file__).resolve().parents[2]))
+sys.path.insert(0, str(Path(__file__).resolve().parents[2]))
 
 from bench.figures.relay import Fan
-from bench.figures.serve import A_MESSAGE, HELLO, Chained, given, header_messages
-from bench.tools.command_line import usage
-from bench.tools.messages import envelope, pings
-from bench.tools.programs import built, written
+from bench.figures.serve import A_MESSAGE, Chained, given, header_messages
+from bench.tools.basics import envelope, pings
+from bench.tools.plain_peer import HELLO
+from bench.tools.programs import built, usage
+from bench.tools.turns import Bench
 
 # How many of each are counted, beyond as many before them.
 PINGS, MESSAGES, TXS, BLOCKS = 2_048, 2, 1_000, 1
@@ -54,16 +54,13 @@ def by_function(lines):
     return taken
 
 
-class Bench:
+class Counted(Bench):
     """Runs of a program in valgrind, over files in a folder."""
-
-    def __init__(self, program, folder):
-        self.program, self.folder = program, folder
 
     def taken(self, data):
         """The instructions that each function takes while it serves these bytes."""
-        path, out = written(os.path.join(self.folder, "said"), data), os.path.join(self.folder, "counted")
-        words = ["valgrind", "--tool=callgrind", f"--callgrind-out-file={out}", self.program, "serve"]
+        path, out = self.write("said", data), os.path.join(self.folder, "counted")
+        words = ["valgrind", "--tool=callgrind", f"--callgrind-out-file={out}", *self.command]
         with open(path, "rb") as source:
             ran = subprocess.run(words, stdin=source, stdout=subprocess.DEVNULL, stderr=subprocess.PIPE, text=True)
         if ran.returncode != 0:
@@ -102,12 +99,12 @@ def split(name, counted):
 
 
 def main():
-    words = usage(__doc__, program="the program, if not crates/cbrelay/out/cbrelay", before="a program of before").parse_args()
+    words = usage(__doc__, program="the program, if not that of ./build", before="a program of before").parse_args()
     programs = [built(words.program, "cbrelay")] + [built(path, "cbrelay") for path in [words.before] if path]
     splits = []
     with tempfile.TemporaryDirectory() as folder:
         for name, count, less, more in conversations():
-            each = [Bench(program, folder).of_each(count, less, more) for program in programs]
+            each = [Counted(program, folder, "serve").of_each(count, less, more) for program in programs]
             print(f"{name}: " + ", before: ".join(f"{sum(counted.values()):,.0f} instructions" for counted in each), flush=True)
             splits += [(name, each[0])] * ("ping" in name)
     for name, counted in splits:

@@ -12,14 +12,11 @@ import sys
 import tempfile
 from pathlib import Path
 
-if not __package__:  # called as a file
-    sys.path.insert(0, str(Path(__file__).resolve().parents[2]))
+sys.path.insert(0, str(Path(__file__).resolve().parents[2]))
 
-from bench.models.plain_block import MinedBlock
 from bench.tools.c_library import C99, compiled, prefix_of
-from bench.tools.command_line import usage
-from bench.tools.full_blocks import fan, spending
-from bench.tools.network import GENESIS
+from bench.tools.made_blocks import FullChain
+from bench.tools.programs import usage
 
 NAMES = {
     "block_check": "cbrelay_block_check, the block",
@@ -34,11 +31,6 @@ NAMES = {
 }
 
 
-def full_block():
-    source = MinedBlock(GENESIS, 1, [fan(1, 4_000)])
-    return MinedBlock(source.header.name, 2, [fan(2, 1), *[spending(source.txs[0], number, 250) for number in range(3_989)]]).text
-
-
 def shown(nanoseconds):
     return f"{nanoseconds / 1e6:.2f} ms" if nanoseconds >= 1e5 else f"{nanoseconds:.0f} ns"
 
@@ -48,7 +40,7 @@ def main():
     prefix = prefix_of(words.compiler or "llvm")
     with tempfile.TemporaryDirectory() as folder:
         block = Path(folder, "block")
-        block.write_bytes(full_block())
+        block.write_bytes(FullChain(1, 3_989).blocks[0].text)
         flags = ["-O3", "-DOPENSSL_API_COMPAT=10100", "-Wl,--no-as-needed", "-lcrypto"]
         program = compiled(prefix, Path(folder, "figures"), "figures.c", *flags, compiler=C99)
         ran = subprocess.run([program, str(block)], capture_output=True, text=True, check=False)

@@ -1,7 +1,7 @@
 #!/usr/bin/env python3
 """Draws how long a block takes to all nodes of a simulated network: python3 bench/figures/net.py [PROGRAM] [--most NODES] [--draw]
 
-It needs the built program (crates/cbrelay/out/cbrelay, as ./build leaves it), python3 and Linux. `cbrelay net` plays networks of 100, 1,000
+It needs the program, python3 and Linux. `cbrelay net` plays networks of 100, 1,000
 and 10,000 nodes, as far as --most NODES goes (10,000 take some 5 GB and minutes): five blocks of 100 transactions, with 10,000 nodes one, of
 which 0, 25, 50, 75 and 100 % of the nodes lack two. All else is as usual, and no audits are made. Each row has the medians of the blocks:
 milliseconds of virtual time until 50, 90 and 100 % of the nodes have a block, and how many bytes were sent meanwhile; and the processor
@@ -20,13 +20,11 @@ import subprocess
 import sys
 from pathlib import Path
 
-if not __package__:  # called as a file
-    sys.path.insert(0, str(Path(__file__).resolve().parents[2]))
+sys.path.insert(0, str(Path(__file__).resolve().parents[2]))
 
 from bench.relay import machine, whose
-from bench.tools.command_line import usage
 from bench.tools.lines import BETWEEN, HEIGHT, LEFT, LIGHT, LINE, TOP, WIDTH, stroke, text, whole
-from bench.tools.programs import ROOT, built
+from bench.tools.programs import ROOT, built, usage
 
 # Networks, by their nodes, with how many blocks each has.
 NODES, SHARES, MISSING = {100: 5, 1_000: 5, 10_000: 1}, (0, 25, 50, 75, 100), 2

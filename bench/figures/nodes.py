@@ -1,7 +1,7 @@
 #!/usr/bin/env python3
 """Measures nodes over loopback: python3 bench/figures/nodes.py [PROGRAM]
 
-It needs the built program (crates/cbrelay/out/cbrelay, as ./build leaves it), python3 and Linux, and takes a few minutes. Eight nodes stand in
+It needs the program, python3 and Linux, and takes a few minutes. Eight nodes stand in
 a line, so that what node 0 knows comes to node 7 by six others. Each row is a way in which blocks of nearly 1 MB come from node to node:
 
 - compact: the mempools have all transactions of the block;
@@ -19,13 +19,11 @@ import sys
 import time
 from pathlib import Path
 
-if not __package__:  # called as a file
-    sys.path.insert(0, str(Path(__file__).resolve().parents[2]))
+sys.path.insert(0, str(Path(__file__).resolve().parents[2]))
 
-from bench.tools.command_line import usage
-from bench.tools.full_blocks import TXS, FullChain
-from bench.tools.node_talk import NodeTalk
-from bench.tools.programs import built
+from bench.tools.made_blocks import TXS, FullChain
+from bench.tools.process_talk import NodeTalk
+from bench.tools.programs import built, usage
 
 NODES, HANDLERS, ROUNDS = 8, (1, 4), 5
 STAR_TXS, QUIET = 10_000, 0.3

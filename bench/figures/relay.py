@@ -2,7 +2,7 @@
 """Measures compact blocks as a peer of `cbrelay serve` meets them: a block that comes so, beside the same block in full, compact blocks
 that go out, and memory while many are never completed: python3 bench/figures/relay.py [PROGRAM] [--plain]
 
-It needs the built program (crates/cbrelay/out/cbrelay, as ./build leaves it), valgrind, a C compiler as `cc`, python3 and Linux, some
+It needs the program, valgrind, a C compiler as `cc`, python3 and Linux, some
 200 MB of disk in the folder for temporary files, and takes less than two minutes. A conversation is one input. Each figure is that of a
 conversation less that of the same one without what is measured: instructions as valgrind's callgrind counts them, milliseconds of the
 processor, the least of some turns, and allocations. Bytes in and out are whole messages. A compact block that goes out is asked for where
@@ -17,7 +17,6 @@ so that it copies and hashes none; and else 1. With --plain nothing is measured:
 
 import os
 import re
-import struct
 import subprocess
 import sys
 import tempfile
@@ -25,20 +24,19 @@ from concurrent.futures import ThreadPoolExecutor
 from pathlib import Path
 from typing import NamedTuple
 
-if not __package__:  # called as a file
-    sys.path.insert(0, str(Path(__file__).resolve().parents[2]))
+sys.path.insert(0, str(Path(__file__).resolve().parents[2]))
 
 from bench.models import plain_wire as wire
-from bench.models.plain_block import NULL_POINT, AnyTx, Block, MinedBlock
-from bench.models.plain_compact import differences, key_of, short_id
+from bench.models.plain_block import Block, MinedBlock, Tx, paying
+from bench.models.plain_compact import differences
 from bench.models.plain_hall import Shared, applied
-from bench.models.plain_session import BLOCK, COMPACT, Closed, Line, PlainSession, Settings, compact
-from bench.tools.command_line import usage
+from bench.models.plain_session import Closed, Line, PlainSession, Settings
+from bench.models.plain_wire import BLOCK, COMPACT, compact
+from bench.tools.basics import GENESIS, envelope
 from bench.tools.growths import Growths, build, run
-from bench.tools.messages import envelope
-from bench.tools.network import GENESIS
-from bench.tools.programs import built, written
-from bench.tools.turns import adopt, in_turns, once
+from bench.tools.plain_peer import HELLO, NONCE
+from bench.tools.programs import built, usage
+from bench.tools.turns import Bench, adopt, in_turns, once
 
 # As many transactions of a size as fit in a block, how many of them the mempool lacks, and the sizes of those that are compared.
 TXS, SIZE, LACKING = 3_990, 250, 20
@@ -46,8 +44,7 @@ FEWER, LARGE = 399, 2_500
 # Compact blocks that are never completed: how many, and how many transactions of each are whole, in the mempool, and nowhere.
 FEW, MANY = 10, 1_000
 WHOLE, WAITING, NOWHERE = 400, 20, 1
-NONCE = 0x5EED
-HELLO = wire.version(Settings(nonce=NONCE)) + envelope(b"verack", b"") + wire.sendcmpct(0, 1)
+GREETING = HELLO + wire.sendcmpct(0)
 # A type of entry that is passed over.
 PASSED = 3
 SECONDS = 6
@@ -79,13 +76,9 @@ class Talk(NamedTuple):
         return self.ground + self.said
 
 
-def coinbase(mark, outputs):
-    return AnyTx([(NULL_POINT, struct.pack("<I", mark))], [1_000] * outputs)
-
-
-def paying(point, size):
+def spending(point, size):
     """A transaction of this size that spends an output."""
-    tx = AnyTx([(point, bytes(8))], [1_000], bytes([0x51]) * (size - (68 if size < 321 else 70)))
+    tx = Tx([(point, bytes(8))], [1_000], bytes([0x51]) * (size - (68 if size < 321 else 70)))
     assert len(tx.text) == size
     return tx
 
@@ -94,19 +87,19 @@ class Fan:
     """A block that makes coins, transactions of one size that spend one each, and a block of these."""
 
     def __init__(self, count, size):
-        coins = coinbase(1, count)
+        coins = paying(1, [], [1_000] * count)
         self.first = MinedBlock(GENESIS, 1, [coins])
-        self.txs = [paying(point, size) for point in coins.points()]
+        self.txs = [spending(point, size) for point in coins.points()]
         self.block = self.mined(2)
         assert len(self.block.text) <= 1_000_000
 
     def mined(self, mark):
         """A block of these transactions, with this mark in its coinbase."""
-        return MinedBlock(self.first.header.name, 2, [coinbase(mark, 1), *self.txs])
+        return MinedBlock(self.first.header.name, 2, [paying(mark, [], [1_000]), *self.txs])
 
     def ground(self, txs=()):
         """A handshake, the first block, and transactions for the mempool."""
-        return HELLO + given(self.first) + b"".join(envelope(b"tx", tx.text) for tx in txs)
+        return GREETING + given(self.first) + b"".join(envelope(b"tx", tx.text) for tx in txs)
 
 
 def given(block):
@@ -149,8 +142,7 @@ class Endless:
         """What is said and told of each."""
         for mark in range(3, 3 + count):
             block = self.fan.mined(mark)
-            key = key_of(block.header.text, NONCE)
-            ids = [short_id(key, tx.name) for tx in block.txs[1 + WHOLE :]]
+            ids = wire.short_ids(block, NONCE, range(1 + WHOLE))
             whole = [(0, tx.text) for tx in block.txs[: 1 + WHOLE]]
             yield wire.cmpctblock(block.header.text, NONCE, ids, whole), wire.getblocktxn(block.header.name, [len(block.txs) - 1])
 
@@ -181,15 +173,12 @@ def plainly(data):
         sys.exit(f"the plain session closed: {closed}")
 
 
-class Bench:
-    """Runs of the program over files in a folder."""
+class Serving(Bench):
+    """Conversations with the program."""
 
     def __init__(self, program, folder):
-        self.command, self.folder = [program, "serve"], folder
+        super().__init__(program, folder, "serve")
         self.library = build(folder)
-
-    def write(self, name, *parts):
-        return written(os.path.join(self.folder, name), *parts)
 
     def heard(self, data):
         """What the program answers."""
@@ -284,14 +273,14 @@ def memory(bench, endless):
 
 
 def main():
-    reader = usage(__doc__, program="the program, if not crates/cbrelay/out/cbrelay")
+    reader = usage(__doc__, program="the program, if not that of ./build")
     reader.add_argument("--plain", action="store_true", help="hold the conversations with the plain session, and measure nothing")
     words = reader.parse_args()
     program = None if words.plain else built(words.program, "cbrelay")
     usual = Fan(TXS, SIZE)
     ins, outs, endless = coming(usual), [going(fan) for fan in (usual, Fan(FEWER, SIZE), Fan(FEWER, LARGE))], Endless()
     with tempfile.TemporaryDirectory() as folder:
-        bench = None if words.plain else Bench(program, folder)
+        bench = None if words.plain else Serving(program, folder)
         heard = plainly if words.plain else bench.heard
         for talk in ins + outs:
             check(talk, heard)

@@ -2,7 +2,7 @@
 """Measures `cbrelay serve` as a peer meets it: headers, blocks in and out, pings, and memory while a gigabyte goes through:
 python3 bench/figures/serve.py [PROGRAM] [BEFORE]
 
-It needs the built program (crates/cbrelay/out/cbrelay, as ./build leaves it), openssl, python3 and Linux, some 3 GB of disk in the
+It needs the program, openssl, python3 and Linux, some 3 GB of disk in the
 folder for temporary files, and takes some minutes. Times are of the processor, the least of some turns, behind a run of the same
 beginning without what is measured. Blocks are compared with one pass of `openssl dgst -sha256` over as many bytes, which takes its
 turns with them. Memory is what a run has at its greatest beyond a run of the same beginning. With a second program, one of before,
@@ -10,22 +10,18 @@ pings are served by both in turns.
 """
 
 import os
-import struct
 import sys
 import tempfile
 from pathlib import Path
 
-if not __package__:  # called as a file
-    sys.path.insert(0, str(Path(__file__).resolve().parents[2]))
+sys.path.insert(0, str(Path(__file__).resolve().parents[2]))
 
 from bench.models import plain_wire as wire
-from bench.models.plain_block import NULL_POINT, AnyTx, MinedBlock
-from bench.models.plain_session import Settings
-from bench.tools.command_line import usage
-from bench.tools.messages import envelope, pings, unknown
-from bench.tools.network import GENESIS
-from bench.tools.programs import built, written
-from bench.tools.turns import HASHED, OPENSSL, adopt, ended, in_turns
+from bench.models.plain_block import MinedBlock, Tx, paying
+from bench.tools.basics import GENESIS, pings, unknown
+from bench.tools.plain_peer import HELLO
+from bench.tools.programs import built, usage
+from bench.tools.turns import Bench, adopt, ended, in_turns
 
 HEADERS, A_MESSAGE = 100_000, 2_000
 # Blocks of so many transactions of 250 bytes, and how many of them go in; how often these are asked for.
@@ -36,67 +32,53 @@ GIGABYTE = 1_000_000_000
 SECONDS = 10
 
 
-def coinbase(mark, outputs):
-    return AnyTx([(NULL_POINT, struct.pack("<I", mark))], [1_000] * outputs, b"\x51")
-
-
 class Chained:
     """Blocks one on another: the first makes coins, and each transaction of the others spends what one of the block before made."""
 
     def __init__(self):
-        coins = coinbase(1, TXS)
+        coins = paying(1, [], [1_000] * TXS)
         self.first = MinedBlock(GENESIS, 1, [coins])
         self.large, points = [], [(coins.name, place) for place in range(TXS)]
         prev = self.first
         for height in range(2, BLOCKS + 2):
-            txs = [AnyTx([(point, bytes(8))], [1_000], PADDING) for point in points]
+            txs = [Tx([(point, bytes(8))], [1_000], PADDING) for point in points]
             points = [(tx.name, 0) for tx in txs]
-            prev = MinedBlock(prev.header.name, height, [coinbase(height, 1), *txs])
+            prev = MinedBlock(prev.header.name, height, [paying(height, [], [1_000]), *txs])
             self.large.append(prev)
 
 
 def lone(prev, height, size):
     """A block whose coinbase alone has about this many bytes."""
-    return MinedBlock(prev, height, [AnyTx([(NULL_POINT, struct.pack("<I", height))], [1_000], bytes(size))])
+    return MinedBlock(prev, height, [paying(height, [], [1_000], bytes(size))])
 
 
 def given(blocks):
-    return b"".join(envelope(b"block", block.text) for block in blocks)
+    return b"".join(wire.block(block.text) for block in blocks)
 
 
 def header_messages(count):
     texts, prev = [], GENESIS
     for height in range(1, count + 1):
-        header = MinedBlock(prev, height, [coinbase(height, 1)]).header
+        header = MinedBlock(prev, height, [paying(height, [], [1_000])]).header
         texts.append(header.text)
         prev = header.name
     return b"".join(wire.headers(texts[start : start + A_MESSAGE]) for start in range(0, count, A_MESSAGE))
 
 
-HELLO = wire.version(Settings(nonce=0x5EED)) + envelope(b"verack", b"")
 
-
-class Bench:
-    """Runs of the program over files in a folder."""
+class Serving(Bench):
+    """Conversations with the program, and with one of before."""
 
     def __init__(self, program, before, folder):
-        self.program, self.before, self.folder = program, before, folder
-        empty = self.write("empty", b"")
-        self.zeros = self.write("zeros", b"")
-        os.truncate(self.zeros, HASHED)
-        start, hashed = in_turns((OPENSSL, empty), (OPENSSL, self.zeros), seconds=SECONDS)
-        self.rate = HASHED / (hashed.seconds - start.seconds)
+        super().__init__(program, folder, "serve")
+        self.before, (_, self.rate) = before, self.openssl(SECONDS)
         print(f"openssl dgst -sha256: {self.rate / 1e6:.0f} MB a second")
-
-    def write(self, name, *parts):
-        return written(os.path.join(self.folder, name), *parts)
 
     def costs(self, ground, *more):
         """Seconds and memory of a conversation that goes on so behind its beginning."""
         bare, whole = self.write("bare", ground), self.write("whole", ground, *more)
-        command = [self.program, "serve"]
-        ended(command, whole, 0)
-        less, all_of_it = in_turns((command, bare), (command, whole), seconds=SECONDS)
+        ended(self.command, whole, 0)
+        less, all_of_it = in_turns((self.command, bare), (self.command, whole), seconds=SECONDS)
         os.truncate(whole, 0)
         return all_of_it.seconds - less.seconds, all_of_it.memory - less.memory
 
@@ -134,17 +116,17 @@ def ping_times(bench):
     print(f"pings behind it: {PINGS / took:,.0f} a second", flush=True)
     if bench.before:
         path = bench.write("whole", pings(PINGS))
-        now, then = in_turns(([bench.program, "serve"], path), ([bench.before, "serve"], path), seconds=4 * SECONDS)
+        now, then = in_turns((bench.command, path), ([bench.before, "serve"], path), seconds=4 * SECONDS)
         print(f"pings before the handshake: {now.seconds / then.seconds:.2f} times as long as with the program of before")
 
 
 def main():
-    words = usage(__doc__, program="the program, if not crates/cbrelay/out/cbrelay", before="a program of before").parse_args()
+    words = usage(__doc__, program="the program, if not that of ./build", before="a program of before").parse_args()
     program = built(words.program, "cbrelay")
     adopt()
     chained = Chained()
     with tempfile.TemporaryDirectory() as folder:
-        bench = Bench(program, words.before and built(words.before, "cbrelay"), folder)
+        bench = Serving(program, words.before and built(words.before, "cbrelay"), folder)
         ping_times(bench)
         speeds(bench, chained)
         ground = HELLO + given([chained.first])

@@ -5,18 +5,9 @@ First `./build --library` makes it by each compiler, unless `--built` says that 
 each a cc with sanitizers, valgrind, c++, cargo and Debian's package python3-bitcoinlib: a part whose tool isn't there is told and left out. It
 takes a minute or two.
 
-- The object's names: those of the header alone are global, and it needs malloc, realloc, free, memcpy, memmove and memset at the most.
-- Calls of bindings/python/cbrelay.py beside plain ones in Python (bench/models/plain_library.py): hashes beside hashlib; blocks that public
-  sources tell; blocks with each fault, of which docs/PROTOCOL.md has the numbers; counts at their limits; Merkle trees; the vectors of
-  SipHash's authors; payloads of all commands, and changed ones; streams as those of bench/looks/fuzz.py; compact blocks byte by byte,
-  rebuilt, lacking, asked for and completed; those of bench/looks/compact_cases.py.
-- python3-bitcoinlib reads the same blocks.
-- The same calls by C programs at strict flags (bench/library): plain, under the sanitizers of addresses and of undefined behaviour, and
-  under valgrind; 100,000 calls with changed bytes, by both compilers' libraries with one outcome; each refused allocation in turn; eight
-  threads at once. The lists that C gives have exactly the size that is told, and begin as bytes that have to stay where nothing is written.
-- Programs in C++ and Rust, and examples/library.
-
-The status is 0 where all came out so.
+Calls of bindings/python/cbrelay.py are made beside plain ones in Python (bench/models/plain_library.py), and the same calls by C programs
+at strict flags (bench/library), whose lists have exactly the size that is told, and begin as bytes that have to stay where nothing is
+written. Then come programs in C++ and Rust, and examples/library. The status is 0 where all came out so.
 """
 
 import hashlib
@@ -31,24 +22,20 @@ import tempfile
 import time
 from pathlib import Path
 
-if not __package__:  # called as a file
-    sys.path.insert(0, str(Path(__file__).resolve().parents[2]))
+sys.path.insert(0, str(Path(__file__).resolve().parents[2]))
 
+from bench.looks.compact_cases import played as compact_played
 from bench.models import plain_library as plain
 from bench.models import plain_wire as wire
-from bench.models.plain_block import MinedBlock
 from bench.models.plain_compact import key_of, short_id
-from bench.models.plain_payload import Fault
+from bench.models.plain_wire import Fault
 from bench.tools import library_cases as cases
+from bench.tools.basics import MAGIC, hash_twice, merkle_root
 from bench.tools.c_library import BINDINGS, C99, CXX11, ORDER, Recorder, cbrelay, compiled, environment, load, played, prefix_of
-from bench.tools.command_line import usage
-from bench.tools.compact_drawing import played as compact_played
-from bench.tools.full_blocks import fan, spending
 from bench.tools.looks import Looks
-from bench.tools.network import GENESIS, MAGIC
-from bench.tools.programs import ROOT
-from bench.tools.stream_drawing import random_stream
-from bench.tools.texts import hash_twice, merkle_root
+from bench.tools.made_blocks import FullChain
+from bench.tools.programs import ROOT, usage
+from bench.tools.stream_drawing import DRAWN, changed, random_stream
 
 COMPILERS = ("llvm", "rattle")
 SYSTEM_PYTHON = "/usr/bin/python3"
@@ -102,6 +89,7 @@ class Calls(Looks):
         self.look("the version", cbrelay.version(), (0, 1))
 
     def hashes(self):
+        """Hashes beside hashlib, and the vectors of SipHash's authors."""
         for size in [*range(200), 1_000, 4_096, 65_535, 1_000_000]:
             data = self.rng.randbytes(size)
             self.look(f"sha256d of {size} bytes", cbrelay.sha256d(data), hashlib.sha256(hashlib.sha256(data).digest()).digest())
@@ -161,7 +149,7 @@ class Calls(Looks):
     def transactions(self):
         """Transactions that are drawn, and changed."""
         for _ in range(PAYLOADS // 4):
-            text = cases.changed(self.rng, cases.random_tx(self.rng))
+            text = changed(self.rng, DRAWN["tx"](self.rng))
             self.same("a txid", cbrelay.txid, plain.txid, text)
             self.same("the rules of a transaction", cbrelay.tx_check, plain.tx_check, text)
             self.same("a transaction's fields", lambda it: fields_of_tx(cbrelay.tx_read(it)), lambda it: fields_of_plain(plain.read_tx(it)), text)
@@ -179,28 +167,27 @@ class Calls(Looks):
     def payloads(self):
         """Payloads of all commands, as they are drawn and changed."""
         for number in range(PAYLOADS):
-            command = self.rng.choice(sorted(cases.DRAWN))
-            payload = cases.changed(self.rng, cases.DRAWN[command](self.rng))
+            command = self.rng.choice(sorted(DRAWN))
+            payload = changed(self.rng, DRAWN[command](self.rng))
             name = command if number % 20 else self.rng.choice(["", "hello", "a b", "thirteen chars", "\x7f", "pIng", "ping\0"])
             status = plain.message_fault(name.encode(), payload)
             self.status(f"a payload of {name}", status, cbrelay.message_check, name, payload)
             self.same(f"an envelope of {name}", cbrelay.message_write, lambda name, it: plain.message_write(name.encode(), it), name, payload)
             if name in cbrelay.READERS:
-                self.same(f"the fields of {name}", lambda it, name=name: fields_of(name, cbrelay.READERS[name](it)),
-                          lambda it, name=name: plain_fields_of(name, wire.read(name, it), it), payload)
+                self.same(f"the fields of {name}", *both_readers(name), payload)
             if name == "block":
                 self.same("a block's transactions", cbrelay.block_transactions_at, lambda it: [tx.text for tx in wire.read("block", it).txs], payload)
 
     def limits(self):
+        """Counts at their limits."""
         for command, payload, status in cases.counts_at_limits():
             self.status(f"a count of {command}", status, cbrelay.message_check, command, payload)
-            self.same(f"a count of {command}, read", lambda it, name=command: fields_of(name, cbrelay.READERS[name](it)),
-                      lambda it, name=command: plain_fields_of(name, wire.read(name, it), it), payload)
+            self.same(f"a count of {command}, read", *both_readers(command), payload)
         self.status("a payload of 4,000,000 bytes", 0, cbrelay.message_check, "filler", bytes(4_000_000))
         self.status("a payload of 4,000,001 bytes", 13, cbrelay.message_check, "filler", bytes(4_000_001))
 
     def streams(self):
-        """Streams step by step, as they are and with other magic and lengths."""
+        """Streams as those of bench/looks/fuzz.py step by step, as they are and with other magic and lengths."""
         for number in range(STREAMS):
             stream, place = random_stream(self.rng), 0
             if number % 50 == 0:
@@ -245,7 +232,7 @@ class Calls(Looks):
 
     def completed(self, block, form, pool, lacking):
         left = [it for it in pool if it not in lacking]
-        kind, request = plain.rebuild_block(form, cases.listed(left))
+        kind, request = plain.rebuild_block(form, wire.listed(left))
         self.look("the kind of what lacks", kind, "request")
         self.look("what lacks", cbrelay.rebuild_block(form, left), cbrelay.Rebuilt(request=request))
         self.look("the request", cbrelay.block_transactions_request(form, left), request)
@@ -253,10 +240,10 @@ class Calls(Looks):
         self.look("the answer", answer, plain.block_transactions(block.text, request))
         self.look("completed", cbrelay.complete_block(form, left, answer), cbrelay.Rebuilt(block=block.text))
         given = [tx.text for tx in block.txs if tx.text in lacking]
-        self.look("completed with others", cbrelay.complete_block(form, left, block.header.name + cases.listed([pool[0]] * len(given))).is_useless,
+        self.look("completed with others", cbrelay.complete_block(form, left, block.header.name + wire.listed([pool[0]] * len(given))).is_useless,
                   pool[0] not in given or len(given) > 1)
-        self.status("one too few", 17, cbrelay.complete_block, form, left, block.header.name + cases.listed(given[1:]))
-        self.status("one too many", 17, cbrelay.complete_block, form, left, block.header.name + cases.listed([*given, given[0]]))
+        self.status("one too few", 17, cbrelay.complete_block, form, left, block.header.name + wire.listed(given[1:]))
+        self.status("one too many", 17, cbrelay.complete_block, form, left, block.header.name + wire.listed([*given, given[0]]))
 
     def refusals(self, block, form, pool):
         """Compact blocks, lists and requests that are hurt."""
@@ -264,12 +251,12 @@ class Calls(Looks):
         self.status("one txid too few", 17, cbrelay.rebuild_block, form, pool, names[1:])
         self.status("cut short", 2, cbrelay.rebuild_block, form[:-1], pool)
         self.status("more behind it", 14, cbrelay.rebuild_block, form + b"\0", pool)
-        self.status("a place behind the end", 16, cbrelay.rebuild_block, cases.form_of(block, NONCE).replace(b"\1\0" + block.txs[0].text, b"\1\xfd\0\1" + block.txs[0].text)
+        self.status("a place behind the end", 16, cbrelay.rebuild_block, wire.compact(block, NONCE)[wire.FRONT :].replace(b"\1\0" + block.txs[0].text, b"\1\xfd\0\1" + block.txs[0].text)
                     if len(block.txs) < 256 else form[:88] + b"\0\1\1" + block.txs[0].text, pool)
-        total = compact_count(len(block.txs))
+        total = wire.spelled(len(block.txs))
         self.status("a request behind the end", 16, cbrelay.block_transactions, block.text, block.header.name + b"\1" + total)
         if len(block.txs) > 2:
-            at = 88 + len(plain.compact_size(len(block.txs) - 1))
+            at = 88 + len(wire.spelled(len(block.txs) - 1))
             twice = form[: at + 6] + form[at : at + 6] + form[at + 12 :]
             self.look("two ids that are equal", cbrelay.rebuild_block(twice, pool).is_useless, True)
             self.look("another root", cbrelay.rebuild_block(form[:36] + bytes(32) + form[68:], pool), self.plain_rebuilt(form[:36] + bytes(32) + form[68:], pool))
@@ -277,7 +264,7 @@ class Calls(Looks):
             self.look("two txids exchanged", cbrelay.rebuild_block(form, pool, wrong), self.plain_rebuilt(form, pool, wrong))
 
     def plain_rebuilt(self, form, pool, names=None):
-        kind, text = plain.rebuild_block(form, cases.listed(pool), names)
+        kind, text = plain.rebuild_block(form, wire.listed(pool), names)
         return cbrelay.Rebuilt(block=text if kind == "block" else None, request=text if kind == "request" else None)
 
     def full(self):
@@ -296,15 +283,10 @@ class Calls(Looks):
 
 
 def full_block():
-    source = MinedBlock(GENESIS, 1, [fan(1, 4_000)])
-    return MinedBlock(source.header.name, 2, [fan(2, 1), *[spending(source.txs[0], number, 250) for number in range(3_989)]])
+    return FullChain(1, 3_989).blocks[0]
 
 
-def compact_count(number):
-    return plain.compact_size(number)
-
-
-# ---- fields as tuples
+# ---- fields as tuples, of the binding's reader and of the plain one
 
 
 def fields_of_tx(tx):
@@ -319,48 +301,37 @@ def header_of(fields):
     return struct.pack("<i32s32sIII", fields.version, fields.prev, fields.root, fields.time, fields.bits, fields.nonce)
 
 
-def fields_of(name, read):
-    """What the binding read, in the form of the plain reader."""
-    if name == "version":
-        return (read.version, read.services, read.time, read.nonce, read.agent, read.height, read.relay,
-                address_text(read.receiver) + address_text(read.sender))
-    if name in ("ping", "pong"):
-        return read.nonce
-    if name == "sendcmpct":
-        return int(read.high_bandwidth), read.version
-    if name in wire.LISTS:
-        return [(it.kind, it.hash) for it in read]
-    if name == "headers":
-        return [header_of(it) for it in read]
-    if name == "getheaders":
-        return read.version, list(read.locator), read.stop
-    if name == "tx":
-        return fields_of_tx(read)
-    if name == "cmpctblock":
-        return header_of(read.header), read.nonce, list(read.ids), [(it.difference, it.tx) for it in read.prefilled]
-    if name == "getblocktxn":
-        return read.block, list(read.differences)
-    return read.block, list(read.txs)
-
-
 def address_text(address):
     return struct.pack("<Q", address.services) + address.ip + struct.pack(">H", address.port)
 
 
-def plain_fields_of(name, read, payload):
-    if name == "version":
-        return read.version, read.services, read.time, read.nonce, read.agent, read.height, read.relay, read.addresses
-    if name == "headers":
-        return [it.text for it in read]
-    if name == "getheaders":
-        return struct.unpack("<I", payload[:4])[0], list(read[0]), read[1]
-    if name == "tx":
-        return fields_of_plain(read)
-    if name == "cmpctblock":
-        return read.header.text, read.nonce, list(read.ids), [(step, tx.text) for step, tx in read.prefilled]
-    if name == "blocktxn":
-        return read[0], [tx.text for tx in read[1]]
-    return read
+FIELDS = {
+    "version": lambda it: (it.version, it.services, it.time, it.nonce, it.agent, it.height, it.relay, address_text(it.receiver) + address_text(it.sender)),
+    **dict.fromkeys(("ping", "pong"), lambda it: it.nonce),
+    "sendcmpct": lambda it: (int(it.high_bandwidth), it.version),
+    **dict.fromkeys(wire.LISTS, lambda it: [(entry.kind, entry.hash) for entry in it]),
+    "headers": lambda it: [header_of(header) for header in it],
+    "getheaders": lambda it: (it.version, list(it.locator), it.stop),
+    "tx": fields_of_tx,
+    "cmpctblock": lambda it: (header_of(it.header), it.nonce, list(it.ids), [(tx.difference, tx.tx) for tx in it.prefilled]),
+    "getblocktxn": lambda it: (it.block, list(it.differences)),
+    "blocktxn": lambda it: (it.block, list(it.txs)),
+}
+# where the plain reader's fields have another form, by the payload too
+PLAIN_FIELDS = {
+    "version": lambda it, _: (it.version, it.services, it.time, it.nonce, it.agent, it.height, it.relay, it.addresses),
+    "headers": lambda it, _: [header.text for header in it],
+    "getheaders": lambda it, payload: (struct.unpack("<I", payload[:4])[0], *it),
+    "tx": lambda it, _: fields_of_plain(it),
+    "cmpctblock": lambda it, _: (it.header.text, it.nonce, it.ids, [(step, tx.text) for step, tx in it.prefilled]),
+    "blocktxn": lambda it, _: (it[0], [tx.text for tx in it[1]]),
+}
+
+
+def both_readers(name):
+    """What the binding reads of a payload, and what the plain reader does, in one form."""
+    of_plain = PLAIN_FIELDS.get(name, lambda it, _: it)
+    return lambda it: FIELDS[name](cbrelay.READERS[name](it)), lambda it: of_plain(wire.read(name, it), it)
 
 
 # ---- programs
@@ -391,7 +362,7 @@ class Programs(Looks):
         return compiled(self.prefix, self.folder / f"{self.compiler}-{name}", *words, compiler=compiler)
 
     def symbols(self):
-        """The names of the archive and of the shared object."""
+        """The names of the archive and of the shared object: those of the header alone are global, and few are needed of a C library."""
         wanted = {f"cbrelay_{it}" for it in ORDER}
         for file, words in (("libcbrelay.a", []), ("libcbrelay.so.0", ["-D"])):
             said = subprocess.run(["nm", *words, "--format=posix", "--extern-only", self.prefix / "lib" / file], capture_output=True, text=True, check=True).stdout
@@ -421,7 +392,7 @@ class Programs(Looks):
         self.look(f"calls by C, {what}", played(output, records.results), (0, None))
 
     def changed(self):
-        """What 100,000 calls with changed bytes come to, as a hash."""
+        """What 100,000 calls with changed bytes come to, as a hash, which is the same by both compilers' libraries."""
         return self.ran("changed calls", [self.made("play-plain", "play.c", "calls.c"), self.folder / "calls", str(CHANGED)])
 
     def refused(self):

@@ -14,13 +14,11 @@ import sys
 from collections import Counter
 from pathlib import Path
 
-if not __package__:  # called as a file
-    sys.path.insert(0, str(Path(__file__).resolve().parents[2]))
+sys.path.insert(0, str(Path(__file__).resolve().parents[2]))
 
 from bench.tools.chain_copies import CHECKED, LARGE, ORIGINALS, SMALL, copied
-from bench.tools.chain_play import ChainPlay
-from bench.tools.command_line import usage
-from bench.tools.programs import Case, run_checked, stored_cases
+from bench.tools.chain_drawing import ChainPlay
+from bench.tools.programs import Case, run_checked, stored_cases, usage
 
 # So many calls go to one chain.
 CALLS = 350

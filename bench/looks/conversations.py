@@ -2,32 +2,28 @@
 """Plays generated conversations through `cbrelay serve`, and compares what it sends with a plain session in Python:
 python3 bench/looks/conversations.py [COUNT] [SEED] [PROGRAM] [--plain], or --store
 
-Without words 2,000 conversations from seed 1, in some minutes. It needs the built program (crates/cbrelay/out/cbrelay, as ./build
-leaves it) and python3. The plain session (bench/models/plain_session.py) was written apart from the program, from the rules in
-docs/PROTOCOL.md. Worked conversations come first (bench/tools/relay_rows.py). Half of the others shake hands in all orders; then come
-headers, blocks and transactions of a few branches, faulty ones among them, what a peer asks, and payloads that can't be read. In the
-other half a chain grows, and its blocks come as compact ones, known to the mempool in whole or not, right or wrong. At the end it
-tells how often each case came, and it fails if one never did. What the plain session reads of the shared state is compared with the
-answers of the plain hall (bench/models/plain_hall.py). With --plain no program is run. With --store the worked conversations are
-written as stored runs of cbrelay (runs/cbrelay/serve-*.run) and as an example (examples/relay.bin).
+Without words 2,000 conversations from seed 1, in some minutes. It needs the program and python3. The plain session
+(bench/models/plain_session.py) was written apart from the program, from the rules in docs/PROTOCOL.md. Worked conversations come first
+(bench/tools/relay_rows.py). Half of the others shake hands in all orders; then come headers, blocks and transactions of a few branches,
+faulty ones among them, what a peer asks, and payloads that can't be read. In the other half a chain grows, and its blocks come as compact
+ones, known to the mempool in whole or not, right or wrong. At the end it tells how often each case came, and it fails if one never did.
+With --plain no program is run. With --store the worked conversations are written as stored runs of cbrelay (runs/cbrelay/serve-*.run) and
+as an example (examples/relay.bin).
 """
 
 import os
-import struct
 import subprocess
 import sys
 from collections import Counter
 from concurrent.futures import ThreadPoolExecutor
 from pathlib import Path
 
-if not __package__:  # called as a file
-    sys.path.insert(0, str(Path(__file__).resolve().parents[2]))
+sys.path.insert(0, str(Path(__file__).resolve().parents[2]))
 
+from bench.models import plain_wire as wire
 from bench.tools import relay_rows
-from bench.tools.command_line import usage
-from bench.tools.conversation_drawing import Conversation, Relay, Spoken
-from bench.tools.programs import ROOT, built
-from bench.tools.session_beside import beside
+from bench.tools.conversation_drawing import Conversation, Relay, Spoken, differs
+from bench.tools.programs import ROOT, built, usage
 
 CONVERSATIONS = 2_000
 # What many conversations have to meet: how sessions end, and what the plain session sends.
@@ -58,19 +54,13 @@ CASES = {
 
 def sent_in(text):
     """The names of the messages in a stream."""
-    met = set()
-    while text:
-        size, name = struct.unpack("<I", text[16:20])[0], text[4:16].rstrip(b"\0").decode()
-        met.add(name)
-        if name == "getdata" and text[24] == 16:
-            met.add("16 asked for")
-        text = text[24 + size :]
-    return met
+    told = wire.read_all(text)
+    return {name for name, _ in told} | {"16 asked for" for name, payload in told if name == "getdata" and payload[0] == 16}
 
 
 def compared(program, seed):
     """How the program differs from the plain session, if it does, what was sent, and which rules came up."""
-    spoken = (Relay if seed % 2 else Conversation)(seed, beside())
+    spoken = (Relay if seed % 2 else Conversation)(seed)
     difference = served_differently(program, spoken.stream, spoken.answered, spoken.why)
     return difference and f"seed {seed}: {difference}", (Counter(sent_in(spoken.answered) | {spoken.why}), spoken.session.met)
 
@@ -79,7 +69,7 @@ def served_differently(program, stream, answered, why):
     """How the program serves a stream otherwise than it should."""
     if program is None:
         return None
-    ran = subprocess.run([program, "serve"], input=stream, capture_output=True, timeout=60)
+    ran = subprocess.run([program, "serve"], input=stream, capture_output=True, timeout=300)
     told = (ran.stdout, ran.stderr.decode("ascii", "replace"), ran.returncode)
     wanted = (answered, f"closed {why}\n", {"Bye": 0, "Memory": 4}.get(why, 3))
     return None if told == wanted else f"{told[1:]} for {wanted[1:]}, {differs(told[0], wanted[0])}"
@@ -87,7 +77,7 @@ def served_differently(program, stream, answered, why):
 
 def row_differences(program, row):
     """Where a worked conversation goes otherwise: with the plain session step by step, and with the program as a whole."""
-    spoken, found = Spoken(beside()), []
+    spoken, found = Spoken(), []
     for remark, said, told in row.steps:
         before = len(spoken.answered)
         for message in said:
@@ -112,12 +102,6 @@ def store():
             file.write(text)
 
 
-def differs(told, wanted):
-    """Where two outputs part."""
-    place = next((place for place, (one, other) in enumerate(zip(told, wanted)) if one != other), min(len(told), len(wanted)))
-    return f"{len(told)} bytes for {len(wanted)}, the first that differs at {place}"
-
-
 def counted(counts):
     return ", ".join(f"{name} {times}" for name, times in sorted(counts.items()) if times)
 
@@ -135,7 +119,7 @@ def report(count, failures, rows, sent, cases):
 
 
 def main():
-    parser = usage(__doc__, count="how many conversations", seed="the seed of the first", program="the program, if not crates/cbrelay/out/cbrelay")
+    parser = usage(__doc__, count="how many conversations", seed="the seed of the first", program="the program, if not that of ./build")
     parser.add_argument("--plain", action="store_true", help="run no program")
     parser.add_argument("--store", action="store_true", help="write the worked conversations")
     words = parser.parse_args()

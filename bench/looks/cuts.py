@@ -1,7 +1,7 @@
 #!/usr/bin/env python3
 """Sends messages that are cut short and counts that lie: python3 bench/looks/cuts.py
 
-It needs the built program (crates/cbrelay/out/cbrelay, as ./build leaves it) and python3, and takes some ten seconds. Each beginning of
+It needs the program and python3, and takes some ten seconds. Each beginning of
 each command's payload, in a message of its own with the right checksum, is Bad with F2 in `decode`, and ends `serve` with BadMessage
 before anything is sent. A `version` is read without its last byte, which says whether it wants transactions. A count of 2^32 - 1 is F4
 where the protocol limits it, and else F2. Each beginning of a `ping` is the beginning of a message, which `serve` waits for until its
@@ -13,18 +13,13 @@ import sys
 from concurrent.futures import ThreadPoolExecutor
 from pathlib import Path
 
-if not __package__:  # called as a file
-    sys.path.insert(0, str(Path(__file__).resolve().parents[2]))
+sys.path.insert(0, str(Path(__file__).resolve().parents[2]))
 
 from bench.models import plain_wire as wire
-from bench.models.plain_block import AnyTx, Block
 from bench.tools import relay_rows as rows
-from bench.tools.blocks import NOBODY
-from bench.tools.command_line import usage
+from bench.tools.basics import GENESIS, envelope
 from bench.tools.looks import Looks
-from bench.tools.messages import envelope
-from bench.tools.network import GENESIS
-from bench.tools.programs import built
+from bench.tools.made_blocks import NOBODY
 
 SECONDS = 60
 COUNT = bytes.fromhex("feffffffff")
@@ -62,6 +57,9 @@ def beginnings():
             yield name, payload[:size], "F2 Truncated"
 
 
+CASES = [*beginnings(), *LYING]
+
+
 class Cuts(Looks):
     """Runs of the program on what is cut short, and on counts that lie."""
 
@@ -70,24 +68,24 @@ class Cuts(Looks):
         ran = subprocess.run([self.program, word], input=given, capture_output=True, timeout=SECONDS, check=False)
         return ran.returncode, ran.stdout, ran.stderr
 
-    def decoded(self, cases):
+    def look_decoded(self):
         """All in one stream, each in a message of its own: the next message is found behind each."""
-        lines = b"".join(envelope(name.encode(), payload).hex().encode() + b"\n" for name, payload, _ in cases)
+        lines = b"".join(envelope(name.encode(), payload).hex().encode() + b"\n" for name, payload, _ in CASES)
         status, printed, _ = self.run("decode", lines)
         told = printed.decode("ascii", "replace").split("\n")
         self.look("decode, status and end", (status, told[-2:]), (0, ["rest 0", ""]))
-        self.look("decode, lines", len(told), len(cases) + 2)
-        for (name, payload, fault), line in zip(cases, told):
+        self.look("decode, lines", len(told), len(CASES) + 2)
+        for (name, payload, fault), line in zip(CASES, told):
             self.look(f"decode of {name}, {len(payload)} bytes", line, f"bad {name} {fault}")
 
-    def served(self, cases):
+    def look_served(self):
         """Each ends a session of its own."""
         with ThreadPoolExecutor(4) as pool:
-            ran = pool.map(lambda case: self.run("serve", envelope(case[0].encode(), case[1]) + rows.ping(7).bytes()), cases)
-            for (name, payload, _), got in zip(cases, ran):
+            ran = pool.map(lambda case: self.run("serve", envelope(case[0].encode(), case[1]) + rows.ping(7).bytes()), CASES)
+            for (name, payload, _), got in zip(CASES, ran):
                 self.look(f"serve of {name}, {len(payload)} bytes", got, (3, b"", b"closed BadMessage\n"))
 
-    def whole(self):
+    def look_whole(self):
         """What is cut above can be read whole, and a `version` also without its last byte."""
         for name, payload in PAYLOADS.items():
             status, printed, _ = self.run("decode", envelope(name.encode(), payload).hex().encode())
@@ -95,7 +93,7 @@ class Cuts(Looks):
         both = [self.run("decode", envelope(b"version", payload).hex().encode()) for payload in (PAYLOADS["version"], PAYLOADS["version"][:-1])]
         self.look("decode of a version without its last byte", both[1], both[0])
 
-    def pings_cut(self):
+    def look_pings_cut(self):
         """Nothing comes of the beginning of a message."""
         ping = rows.ping(0).bytes()
         for size in range(len(ping)):
@@ -103,16 +101,5 @@ class Cuts(Looks):
         self.look("serve of a whole ping", self.run("serve", ping), (0, rows.pong(0).bytes(), b"closed Bye\n"))
 
 
-def main():
-    usage(__doc__).parse_args()
-    looks = Cuts("cuts", built(None, "cbrelay"))
-    cases = [*beginnings(), *LYING]
-    looks.whole()
-    looks.decoded(cases)
-    looks.served(cases)
-    looks.pings_cut()
-    return looks.told()
-
-
 if __name__ == "__main__":
-    sys.exit(main())
+    sys.exit(Cuts.main(__doc__))

@@ -2,7 +2,7 @@
 """Runs the built program where no stored run can: reads and writes that fail, one byte at a time, lists of words and lines that each
 end a run, and long inputs: python3 bench/looks/edges.py
 
-It needs the built program (crates/cbrelay/out/cbrelay, as ./build leaves it), a C compiler as `cc`, python3 and Linux, and takes some
+It needs the program, a C compiler as `cc`, python3 and Linux, and takes some
 seconds. What has to
 come out was written from the rules in docs/PROTOCOL.md.
 """
@@ -17,14 +17,11 @@ import tempfile
 import time
 from pathlib import Path
 
-if not __package__:  # called as a file
-    sys.path.insert(0, str(Path(__file__).resolve().parents[2]))
+sys.path.insert(0, str(Path(__file__).resolve().parents[2]))
 
-from bench.tools.command_line import usage
+from bench.tools.basics import envelope
+from bench.tools.growths import preloaded
 from bench.tools.looks import Looks
-from bench.tools.messages import envelope
-from bench.tools.programs import built
-from bench.tools.slow_writes import build
 
 SECONDS = 60
 VERACK = envelope(b"verack", b"")
@@ -80,12 +77,12 @@ class Edges(Looks):
 
     # ---- words and lines that end a run
 
-    def words_that_are_refused(self):
+    def look_words_that_are_refused(self):
         for word in REFUSED_WORDS:
             status, printed, told = self.run([word], DECODED)
             self.look(f"the word {word!r}", (status, printed, told != b""), (1, b"", True))
 
-    def lines_that_cannot_be_read(self):
+    def look_lines_that_cannot_be_read(self):
         for line in NO_HEX:
             self.look(f"decode of {line!r}", self.run(["decode"], b"fa\n" + line + b"\nfa\n"), (3, b"line 2 not hex\n", b""))
         self.look("decode of a CR at the end", self.run(["decode"], b"fabf\r"), (3, b"line 1 not hex\n", b""))
@@ -95,12 +92,12 @@ class Edges(Looks):
             lines = f"system 1 1 1\nput 0 7\n{line}\ntake 0\n".encode()
             self.look(f"sim of {line!r}", self.run(["sim"], lines), (3, b"3 unreadable\n", b""))
 
-    def nodes_that_are_refused(self):
+    def look_nodes_that_are_refused(self):
         for words in NO_RUNS:
             status, printed, told = self.run(["run", *words.split()], b"wait\n")
             self.look(f"run {words}", (status, printed, told != b""), (1, b"", True))
 
-    def lines_of_nodes_that_cannot_be_read(self):
+    def look_lines_of_nodes_that_cannot_be_read(self):
         for line in NO_LINES:
             given = f"kick 0 64\n{line}\nmine 0\n".encode()
             self.look(f"run of {line!r}", self.run(RUN, given), (3, b"1 no slot\n2 unreadable\n", b""))
@@ -108,7 +105,7 @@ class Edges(Looks):
 
     # ---- reads
 
-    def one_byte_a_read(self):
+    def look_one_byte_a_read(self):
         """Each read gives one byte: a message of a socket that keeps them apart."""
         for words, given, printed, told in (
             (["decode"], DECODED, PRINTED, b""),
@@ -125,7 +122,7 @@ class Edges(Looks):
                 got = node.communicate(timeout=SECONDS)
             self.look(f"{words[0]}, a byte a read", (node.returncode, *got), (0, printed, told))
 
-    def reads_that_fail(self):
+    def look_reads_that_fail(self):
         """Behind these bytes a read fails: what its peer didn't read when it closed breaks a socket's connection."""
         for name, words, given, wanted in (
             ("decode, behind a line and a half", ["decode"], DECODED[:60], (3, b"verack\n", b"read failed\n")),
@@ -157,7 +154,7 @@ class Edges(Looks):
             file.seek(0)
             return status, file.read(), told
 
-    def writes_that_fail(self):
+    def look_writes_that_fail(self):
         """A file that takes a few bytes, a device that is full, and a pipe that nobody reads."""
         for size in (0, 9, 37):
             wanted = (3, PRINTED[:size], b"write failed\n")
@@ -175,10 +172,10 @@ class Edges(Looks):
             with unread_pipe() as pipe:
                 self.look(f"{words[0]} to a closed pipe", self.run(words, given, stdout=pipe), (3, b"", told))
 
-    def one_byte_a_write(self):
+    def look_one_byte_a_write(self):
         """Each write takes one byte, and each second one is interrupted: the whole output goes out."""
         with tempfile.TemporaryDirectory() as folder:
-            environment = dict(os.environ, LD_PRELOAD=build(folder))
+            environment = dict(os.environ, LD_PRELOAD=preloaded(folder, "writes"))
             for words, given, printed, told in (
                 (["decode"], DECODED, PRINTED, b""),
                 (["serve"], PING + PING, PONG + PONG, b"closed Bye\n"),
@@ -189,7 +186,7 @@ class Edges(Looks):
 
     # ---- long inputs
 
-    def a_hundred_thousand_acts(self):
+    def look_a_hundred_thousand_acts(self):
         """The lists grow to 50,000 entries: an act that copied one would take minutes together."""
         count, began = 50_000, time.monotonic()
         lines = b"system 1 1 1\nclaim 0\n" + b"put 0 1\ntake 0\n" * count
@@ -199,7 +196,7 @@ class Edges(Looks):
         took = time.monotonic() - began
         self.look("100,000 acts within 10 seconds", took < 10, True)
 
-    def pings_past_checkpoints(self):
+    def look_pings_past_checkpoints(self):
         for count in (32_767, 32_768, 100_000):
             self.look(f"{count} pings", self.run(["serve"], PING * count), (0, PONG * count, b"closed Bye\n"))
 
@@ -211,21 +208,5 @@ def unread_pipe():
     return os.fdopen(writing, "wb")
 
 
-def main():
-    usage(__doc__).parse_args()
-    looks = Edges("edges", built(None, "cbrelay"))
-    looks.words_that_are_refused()
-    looks.lines_that_cannot_be_read()
-    looks.nodes_that_are_refused()
-    looks.lines_of_nodes_that_cannot_be_read()
-    looks.one_byte_a_read()
-    looks.reads_that_fail()
-    looks.writes_that_fail()
-    looks.one_byte_a_write()
-    looks.a_hundred_thousand_acts()
-    looks.pings_past_checkpoints()
-    return looks.told()
-
-
 if __name__ == "__main__":
-    sys.exit(main())
+    sys.exit(Edges.main(__doc__))

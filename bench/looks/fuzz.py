@@ -2,9 +2,9 @@
 """Runs the built program on random and mutated byte strings, cut at random, and compares what it prints:
 python3 bench/looks/fuzz.py [COUNT] [SEED] [PROGRAM]
 
-Without words 10,000 strings from seed 1, in about a minute. It needs the program (crates/cbrelay/out/cbrelay, as ./build
-leaves it) and python3. Each string goes through `decode` and `serve`; what they print and their statuses have to be those of
-a plain reader (bench/models/plain_stream.py), which was written apart from the program. First a word that isn't UTF-8 has to be refused.
+Without words 10,000 strings from seed 1, in about a minute. It needs the program and python3. Each string goes through `decode` and
+`serve`; what they print and their statuses have to be those of a plain reader (bench/models/plain_stream.py), which was written apart from
+the program. First a word that isn't UTF-8 has to be refused.
 """
 
 import concurrent.futures
@@ -14,12 +14,10 @@ import subprocess
 import sys
 from pathlib import Path
 
-if not __package__:  # called as a file
-    sys.path.insert(0, str(Path(__file__).resolve().parents[2]))
+sys.path.insert(0, str(Path(__file__).resolve().parents[2]))
 
 from bench.models.plain_stream import decoded, served
-from bench.tools.command_line import usage
-from bench.tools.programs import built
+from bench.tools.programs import built, usage
 from bench.tools.stream_drawing import random_stream
 
 
@@ -90,7 +88,7 @@ def foreign_words(program):
 
 
 def main():
-    words = usage(__doc__, count="how many strings", seed="the first one's seed", program="the program, if not crates/cbrelay/out/cbrelay").parse_args()
+    words = usage(__doc__, count="how many strings", seed="the first one's seed", program="the program, if not that of ./build").parse_args()
     count, first = int(words.count or 10_000), int(words.seed or 1)
     program = built(words.program, "cbrelay")
     differences = foreign_words(program)

@@ -15,18 +15,16 @@ import sys
 from collections import Counter
 from pathlib import Path
 
-if not __package__:  # called as a file
-    sys.path.insert(0, str(Path(__file__).resolve().parents[2]))
+sys.path.insert(0, str(Path(__file__).resolve().parents[2]))
 
-from bench.models.plain_block import Block, Header, Tx, paying
+from bench.models.plain_block import Block, Header, paying
 from bench.models.plain_compact import key_of, short_id
-from bench.tools.blocks import NOBODY
-from bench.tools.command_line import usage
+from bench.tools.basics import GENESIS, header_text, shown
 from bench.tools.hall_costs import CHECKED, LIMIT, SMALL, all_rows, header_plays, shared, told, told_memory
 from bench.tools.hall_drawing import Generated, tx_of_64_bytes
 from bench.tools.hall_play import HallPlay, question_text, repeated
-from bench.tools.network import GENESIS, header_text
-from bench.tools.programs import Case, run_checked, stored_cases, write_stored_run
+from bench.tools.made_blocks import NOBODY
+from bench.tools.programs import Case, run_checked, stored_cases, usage, write_stored_run
 from bench.tools.records import record
 
 # So many calls go to one hall. So many are stored, from this seed.
@@ -67,7 +65,7 @@ def chained(play, prev, marks, connection=(0, 1), capable=False, spent=()):
     """Blocks one on another, given by a connection; the first one also has these transactions."""
     blocks = []
     for mark in marks:
-        blocks.append(Block(prev, [Tx(mark, [], [50]), *spent]))
+        blocks.append(Block(prev, [paying(mark, [], [50]), *spent]))
         prev, spent = blocks[-1].header.name, ()
         expect(play.ask(connection, "block", blocks[-1], capable), "block - locator")
     return blocks
@@ -79,12 +77,11 @@ def pool_words(told):
 
 
 def names_text(txs):
-    return "".join(f" {tx.name[::-1].hex()}" for tx in txs)
+    return "".join(f" {shown(tx.name)}" for tx in txs)
 
 
 def row_a_pool_over_a_reorganisation(play):
     """t spends what the first block makes, and u what t makes. A block with t leaves u alone, and goes off again."""
-    play.begin()
     [first] = chained(play, GENESIS, [1])
     t = paying(1, [(first.txs[0].name, 0)], [50])
     u = paying(2, [(t.name, 0)], [50])
@@ -96,46 +93,42 @@ def row_a_pool_over_a_reorganisation(play):
     chained(play, first.header.name, [3, 4])
     expect(pool_words(play.ask((1, 1), "news", None, 0, False)), f" txids{names_text([t, u])} next 3 high false")
     expect(pool_words(play.ask((1, 1), "news", None, 2, False)), f" txids{names_text([t])} next 3 high false")
-    play.look()
+    play.call("look")
 
 
 def row_b_first_block_made(play):
     """A new hall makes a block with the mark 7."""
-    play.begin()
-    told = play.mine(7)
+    told = play.call("mine", 7)
     expect(told[told.index(" 147"):], " 147 txs 1 time 1296688603 script 0100000007 size 66")
-    expect(play.extend(7), "block - locator")
-    expect(play.look()[:20], "look height 1 pool 0")
+    expect(play.call("extend", 7), "block - locator")
+    expect(play.call("look")[:20], "look height 1 pool 0")
 
 
 def row_c_kicked(play):
     """A kicked peer is told so, and nobody else."""
-    play.begin()
-    play.kick(0)
+    play.call("kick", 0)
     expect(play.ask((0, 1), "locator"), "kicked")
-    expect(play.counts()[0:9], "journal 2")
+    expect(play.call("counts")[0:9], "journal 2")
     expect(play.ask((1, 1), "locator"), f"locator {FIRST}")
-    expect(play.replay(), f"replay journal 3 {play.look()}")
+    expect(play.call("replay"), f"replay journal 3 {play.call('look')}")
 
 
 def kicked_and_opened_again(play):
     """A kicked peer connects again, and all is the same if it is computed again, also behind a checkpoint."""
-    play.begin()
     expect(play.ask((1, 1), "admit"), "go")
-    play.kick(1)
+    play.call("kick", 1)
     expect(play.ask((1, 1), "locator"), "kicked")
     expect(play.ask((0, 1), "locator"), f"locator {FIRST}")
-    expect(play.open(1), "opened 1.2")
+    expect(play.call("open", 1), "opened 1.2")
     expect(play.ask((1, 2), "admit"), "go")
-    expect(play.again(), "again journal 6 answers 4 same true")
-    play.checkpoint()
-    expect(play.counts(), "journal 0 0.1 1 1 1 false 1.1 2 2 2 true 1.2 1 1 1 false")
-    expect(play.again(), "again journal 0 answers 0 same true")
+    expect(play.call("again"), "again journal 6 answers 4 same true")
+    play.call("checkpoint")
+    expect(play.call("counts"), "journal 0 0.1 1 1 1 false 1.1 2 2 2 true 1.2 1 1 1 false")
+    expect(play.call("again"), "again journal 0 answers 0 same true")
 
 
 def wanted_once(play):
     """An unknown transaction and an unknown block are wanted once, and a compact block isn't."""
-    play.begin()
     tx, block = (1, bytes([1]) * 32), (2, bytes([2]) * 32)
     told = play.ask((0, 1), "want", [tx, block, tx, (4, block[1]), block])
     expect(told, f"need 1 {'01' * 32} 2 {'02' * 32} near false locator {FIRST}")
@@ -143,24 +136,20 @@ def wanted_once(play):
 
 def served_of_a_new_hall(play):
     """The first block whole, or as a compact one; nothing for another type; and what isn't there."""
-    play.begin()
     told = play.ask((0, 1), "items", [(2, GENESIS), (4, GENESIS), (9, GENESIS), (1, bytes([1]) * 32)])
     expect(told, f"served whole {FIRST} 285 short {FIRST} 285 lacking 1 {'01' * 32}")
 
 
 def nothing_is_new(play):
-    play.begin()
     expect(play.ask((1, 1), "news", GENESIS, 0, True), f"news {FIRST} path long false txids next 0 high false")
 
 
 def row_8_refused_for_its_size(play):
-    play.begin()
     expect(play.ask((0, 1), "tx", tx_of_64_bytes()), "tx F8 Size64")
 
 
 def row_13_compact_near_the_tip(play):
     """At height 12 the block at height 7 is served as a compact one, the one at 6 whole."""
-    play.begin()
     blocks = chained(play, GENESIS, range(1, 13))
     for height, word in ((7, "short"), (6, "whole")):
         expect(play.ask((0, 1), "items", [(4, blocks[height - 1].header.name)])[6:12], f" {word}")
@@ -169,58 +158,54 @@ def row_13_compact_near_the_tip(play):
 def row_13_parts_near_the_tip(play):
     """At height 12 the transactions of the block at height 2 are served alone, of the one at height 1 the whole block. A place that
     isn't one of the block's is refused at any height, and of a block that isn't there nothing is served."""
-    play.begin()
     blocks = chained(play, GENESIS, range(1, 13))
     for height, word in ((2, "part"), (1, "whole")):
         name = blocks[height - 1].header.name
-        told = f"{word} {name[::-1].hex()} "
+        told = f"{word} {shown(name)} "
         expect(play.ask((0, 1), "places", name, [0])[:len(told)], told)
         for places in ([1], [0, 0], [0, (1 << 64) - 1]):
             expect(play.ask((0, 1), "places", name, places), "places F16 BadIndex")
-    expect(play.ask((0, 1), "places", blocks[1].header.name, []), f"part {blocks[1].header.name[::-1].hex()}")
+    expect(play.ask((0, 1), "places", blocks[1].header.name, []), f"part {shown(blocks[1].header.name)}")
     expect(play.ask((0, 1), "places", NOBODY, [0]), "absent")
 
 
 def places_of_a_block(play):
     """Of a block of four transactions those at the places 0, 2 and 3, whose differences are 0, 1 and 0."""
-    play.begin()
     [first] = chained(play, GENESIS, [1])
     spent = [paying(1, [(first.txs[0].name, 0)], [50])]
     for mark in (2, 3):
         spent.append(paying(mark, [(spent[-1].name, 0)], [50]))
     [block] = chained(play, first.header.name, [2], spent=spent)
-    told = "".join(f" tx {block.txs[place].name[::-1].hex()} {len(block.txs[place].text)}" for place in (0, 2, 3))
-    expect(play.ask((0, 1), "places", block.header.name, [0, 1, 0]), f"part {block.header.name[::-1].hex()}{told}")
+    told = "".join(f" tx {shown(block.txs[place].name)} {len(block.txs[place].text)}" for place in (0, 2, 3))
+    expect(play.ask((0, 1), "places", block.header.name, [0, 1, 0]), f"part {shown(block.header.name)}{told}")
 
 
 def pairs_of_a_pool_that_was(play):
     """t waits, and is matched by its id. Then u is given, and a block takes t: the pairs are what they were, and a new match tells u."""
-    play.begin()
     [first] = chained(play, GENESIS, [1])
     t = paying(1, [(first.txs[0].name, 0)], [50])
     u = paying(2, [(t.name, 0)], [50])
-    expect(play.last_pairs(), "no pairs")
+    expect(play.call("last_pairs"), "no pairs")
     expect(play.ask((0, 1), "tx", t), "tx -")
     header, nonce = first.header.text, 5
     key = key_of(header, nonce)
     ids = [short_id(key, u.name), 7, short_id(key, t.name)]
-    told = f"pairs {ids[2]} {t.name[::-1].hex()}"
+    told = f"pairs {ids[2]} {shown(t.name)}"
     expect(play.ask((0, 1), "match", header, nonce, ids), told)
     expect(play.ask((0, 1), "tx", u), "tx -")
-    expect(play.last_pairs(), told)
-    both = f"{told} {ids[0]} {u.name[::-1].hex()}"
+    expect(play.call("last_pairs"), told)
+    both = f"{told} {ids[0]} {shown(u.name)}"
     expect(play.ask((0, 1), "match", header, nonce, ids), both)
     chained(play, first.header.name, [2], spent=[t])
     expect(pool_words(play.ask((1, 1), "news", None, 0, False)), f" txids{names_text([u])} next 2 high false")
-    expect(play.last_pairs(), both)
-    expect(play.ask((1, 1), "match", header, nonce, ids), f"pairs {ids[0]} {u.name[::-1].hex()}")
+    expect(play.call("last_pairs"), both)
+    expect(play.ask((1, 1), "match", header, nonce, ids), f"pairs {ids[0]} {shown(u.name)}")
     expect(play.ask((1, 1), "match", header, nonce + 1, ids), "pairs")
-    expect(play.again(), "again journal 9 answers 9 same true")
+    expect(play.call("again"), "again journal 9 answers 9 same true")
 
 
 def row_14_announcers(play):
     """Which of the first five peers are announcers after each of these gave a tip."""
-    play.begin()
     tip = GENESIS
     for mark, (peer, announcers) in enumerate([(0, {0}), (1, {0, 1}), (2, {0, 1, 2}), (3, {1, 2, 3}), (1, {1, 2, 3}), (4, {1, 3, 4})]):
         tip = chained(play, tip, [mark], (peer, 1), True)[0].header.name
@@ -231,6 +216,7 @@ def row_14_announcers(play):
 def worked_examples(play):
     for example in (row_a_pool_over_a_reorganisation, row_b_first_block_made, row_c_kicked, row_8_refused_for_its_size, row_13_compact_near_the_tip,
                     row_13_parts_near_the_tip, places_of_a_block, pairs_of_a_pool_that_was, row_14_announcers, kicked_and_opened_again, wanted_once, served_of_a_new_hall, nothing_is_new):
+        play.begin()
         example(play)
 
 
@@ -253,7 +239,7 @@ def headers_around_one_without_work():
     expect(told[4:-1], [header.name[::-1].hex() for header in headers[:1_000]])
     expect(play.ask((0, 1), "headers", [headers[1_001]])[:17], "heads F23 NoParen")
     expect(play.ask((0, 1), "headers", headers[999:1_000]), f"heads - lack {told[1_003]} locator")
-    play.look()
+    play.call("look")
     return play
 
 
@@ -273,8 +259,8 @@ def generated(seed, count, is_short, play=None):
     drawing = Generated(play, seed, is_short)
     for _ in range(count):
         drawing.turn()
-    play.counts()
-    play.again()
+    play.call("counts")
+    play.call("again")
     expect(play.hall.folded(len(play.hall.calls)).look(), play.hall.now.look())
     return play
 

@@ -2,7 +2,7 @@
 """Plays generated conversations with nodes over loopback, of one peer and of many at once: python3 bench/looks/many_peers.py [COUNT]
 [SEED] [PROGRAM]
 
-It needs the built program (crates/cbrelay/out/cbrelay, as ./build leaves it), python3 and Linux, and takes a minute or two. The
+It needs the program, python3 and Linux, and takes a minute or two. The
 conversations are those of bench/looks/conversations.py.
 
 - One peer: without words 300 conversations from seed 1, each with a new node of `run`, by 1 handler or by 4. The node has to answer as
@@ -22,14 +22,10 @@ import sys
 from concurrent.futures import ThreadPoolExecutor
 from pathlib import Path
 
-if not __package__:  # called as a file
-    sys.path.insert(0, str(Path(__file__).resolve().parents[2]))
+sys.path.insert(0, str(Path(__file__).resolve().parents[2]))
 
-from bench.tools.command_line import usage
-from bench.tools.conversation_drawing import Conversation, Relay
-from bench.tools.node_talk import NodeTalk, peer
-from bench.tools.process_talk import NodeProcess, ProcessLooks
-from bench.tools.programs import built
+from bench.tools.conversation_drawing import Conversation, Relay, differs
+from bench.tools.process_talk import NodeTalk, ProcessLooks, connected
 
 ALONE, PEERS, CONNECTIONS, HANDLERS = 300, 40, 5, 4
 # How often a peer of many is kicked by the operator between two of its connections.
@@ -69,7 +65,7 @@ class ManyPeers(ProcessLooks):
             # The node listens from the first link on. That one ends before the peer comes.
             made = [nodes.say("link 1 0"), nodes.say("kick 0 0")]
             [port] = nodes.ports()
-            with peer(port, PATIENCE) as stream:
+            with connected(port, PATIENCE) as stream:
                 # The peer waits to be accepted, so it is taken for node 1, whose own connection waits behind it.
                 made.append(nodes.say("link 1 0"))
                 told = heard(stream, spoken.stream)
@@ -79,52 +75,39 @@ class ManyPeers(ProcessLooks):
         wanted = [None] * 3, [spoken.why], spoken.answered
         return None if got == wanted else f"seed {seed}: {got[:2]} for {wanted[:2]}, {differs(told, spoken.answered)}"
 
-    def one_peer(self, count, first):
+    def look_one_peer(self):
         """Each conversation of one peer is answered as by the plain session."""
+        count, first = int(self.options.count or ALONE), int(self.options.seed or 1)
         with ThreadPoolExecutor(os.cpu_count()) as lanes:
             for difference in lanes.map(self.alone, range(first, first + count)):
                 self.look("a conversation", difference, None)
-        print(f"{self.name}: {count} conversations of one peer")
+        self.tell(f"{count} conversations of one peer")
 
     def play(self, node, port, seed):
         """One of many peers: its connections, one after another. How many came to their end comes back."""
         rng, ended = random.Random(seed), 0
         for connection in range(CONNECTIONS):
-            with peer(port, PATIENCE) as stream:
+            with connected(port, PATIENCE) as stream:
                 heard(stream, drawn(rng.randrange(1, 1 + ALONE)).stream)
             ended += 1
         return ended
 
-    def many(self, seed):
+    def look_many(self):
         """Many peers at once, and an operator who kicks some of them."""
+        seed = int(self.options.seed or 1)
         rng = random.Random(seed)
-        with NodeProcess(self.program, "--handlers", str(HANDLERS), seconds=PATIENCE) as node:
-            port = node.port()
-            with ThreadPoolExecutor(PEERS) as lanes:
-                playing = [lanes.submit(self.play, node, port, (seed << 16) + it) for it in range(PEERS)]
-                while not all(it.done() for it in playing):
-                    for one in node.peers():
-                        if rng.random() < KICKS:
-                            node.say(f"kick {one.slot}")
-            self.look("connections that came to their end", sum(it.result() for it in playing), PEERS * CONNECTIONS)
-            self.comes("their sessions' end", node, lambda: node.peers() == [])
-            self.ends(node, asked=True, drops=None)
-
-
-def differs(got, wanted):
-    """Where two streams differ at first."""
-    place = next((it for it, (one, other) in enumerate(zip(got, wanted)) if one != other), min(len(got), len(wanted)))
-    return f"{len(got)} bytes for {len(wanted)}, the same up to {place}"
-
-
-def main():
-    words = usage(__doc__, count="how many conversations of one peer", seed="the seed of the first", program="the program").parse_args()
-    looks = ManyPeers("many_peers", built(words.program, "cbrelay"))
-    seed = int(words.seed or 1)
-    looks.one_peer(int(words.count or ALONE), seed)
-    looks.many(seed)
-    return looks.told()
+        node = self.node("--handlers", str(HANDLERS), seconds=PATIENCE)
+        port = node.port
+        with ThreadPoolExecutor(PEERS) as lanes:
+            playing = [lanes.submit(self.play, node, port, (seed << 16) + it) for it in range(PEERS)]
+            while not all(it.done() for it in playing):
+                for one in node.peers():
+                    if rng.random() < KICKS:
+                        node.say(f"kick {one.slot}")
+        self.look("connections that came to their end", sum(it.result() for it in playing), PEERS * CONNECTIONS)
+        self.comes("their sessions' end", node, lambda: node.peers() == [])
+        self.ends(node, asked=True, drops=None)
 
 
 if __name__ == "__main__":
-    sys.exit(main())
+    sys.exit(ManyPeers.main(__doc__, count="how many conversations of one peer", seed="the seed of the first"))

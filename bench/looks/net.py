@@ -1,7 +1,7 @@
 #!/usr/bin/env python3
-"""Simulates networks in which all goes wrong at once: python3 bench/looks/net.py [COUNT] [SEED] [--program PROGRAM]
+"""Simulates networks in which all goes wrong at once: python3 bench/looks/net.py [COUNT] [SEED] [PROGRAM]
 
-It needs the built program (crates/cbrelay/out/cbrelay, as ./build leaves it) and python3. `cbrelay net` plays COUNT networks, 200 where none
+It needs the program and python3. `cbrelay net` plays COUNT networks, 200 where none
 is given, in half a minute. Each has 30 nodes, of which some stall and some lie. It is cut in two for some blocks, and a node begins anew
 with nothing. At the end the honest nodes must have one tip, each audit must say yes, and no honest node may have closed an honest one's
 connection. Some networks are simulated twice, and must print the same bytes; and once more as rows of comma-separated values, which must
@@ -18,12 +18,9 @@ import subprocess
 import sys
 from pathlib import Path
 
-if not __package__:  # called as a file
-    sys.path.insert(0, str(Path(__file__).resolve().parents[2]))
+sys.path.insert(0, str(Path(__file__).resolve().parents[2]))
 
-from bench.tools.command_line import usage
 from bench.tools.looks import Looks
-from bench.tools.programs import built
 
 COUNT, SEED, NODES, SECONDS = 200, 1, 30, 300
 # Of so many networks one is simulated again, and printed as rows.
@@ -161,16 +158,17 @@ def rows(text):
 class NetLooks(Looks):
     """Looks at networks that the program plays."""
 
-    def run(self, words):
-        """The status, standard output and standard error of a network of these words."""
-        ran = subprocess.run([self.program, "net", *words.split()], stdin=subprocess.DEVNULL, capture_output=True, timeout=SECONDS, check=False)
-        return ran.returncode, ran.stdout.decode(), ran.stderr.decode()
-
     def text(self, words):
         """What a network prints. It has to end well, and nothing else is told."""
-        status, printed, told = self.run(words)
+        status, printed, told = self.ran("net", *words.split())
         self.look(f"{words}: how it ends", (status, told), (0, ""))
         return printed
+
+    def look_networks(self):
+        """Networks in which all goes wrong at once."""
+        first = int(self.options.seed or SEED)
+        for place in range(int(self.options.count or COUNT)):
+            self.network(first + place, place % AGAIN == 0)
 
     def network(self, seed, again):
         """One network with every fault, which is played again if that is asked for."""
@@ -192,7 +190,7 @@ class NetLooks(Looks):
             print("  ", options(words))
             print(text)
 
-    def calm(self):
+    def look_calm(self):
         """A network without faults: all nodes have each block, and audits change nothing."""
         told = Told(self.text(CALM))
         self.look("a calm network", (told.last["tip"][2:], told.last["audit"]), (["nodes", "20", "of", "20"], ["yes", "20", "no", "0"]))
@@ -202,14 +200,14 @@ class NetLooks(Looks):
         self.look("the same without audits", (other.last["tip"], other.bytes), (told.last["tip"], told.bytes))
         self.look("no audits", "audit" in other.last, False)
 
-    def least(self):
+    def look_least(self):
         """The least words suffice, and stand for all that is usual."""
         text = self.text(LEAST)
         self.look("all that is usual", self.text(USUAL), text)
         told = Told(text)
         self.look("the least words", (told.last["tip"][2:], sorted(told.blocks)), (["nodes", "5", "of", "5"], [1]))
 
-    def times(self):
+    def look_times(self):
         """A block comes from one node to the other after three latencies, and the bytes of three messages at the rate of a line."""
         told = Told(self.text(f"{PAIR} --latency {MILLISECONDS}..{MILLISECONDS} --rate {RATE}"))
         self.look("messages that bring a block", [told.bytes["1"].get(it) for it in ("headers", "getdata")], [(1, HEADERS), (1, GETDATA)])
@@ -217,7 +215,7 @@ class NetLooks(Looks):
         due = 3 * MILLISECONDS + (HEADERS + GETDATA + compact) * 1_000 // RATE
         self.look("when a block comes", (count, told.blocks[1]["half"], told.blocks[1]["all"]), (1, "0", str(due)))
 
-    def progress(self):
+    def look_progress(self):
         """A terminal is told how far a network is, on a line that is erased; what is printed stays the same."""
         mine, theirs = os.openpty()
         with open(mine, "rb", buffering=0) as terminal:
@@ -228,30 +226,14 @@ class NetLooks(Looks):
         self.look("what a terminal is told", [it for it in told if it], ["nodes greet each other", "block 1 of 1", "audits"])
         self.look("the terminal's line at the end", told[-1], "")
 
-    def refusals(self):
+    def look_refusals(self):
         """Words that can't be read, and words that no network can have."""
         for words, named in UNREAD.items():
-            status, printed, told = self.run(words)
+            status, printed, told = self.ran("net", *words.split())
             self.look(f"'{words}'", (status, printed, named in told), (1, "", True))
         for words, why in REFUSED.items():
-            self.look(words, self.run(words), (3, "", f"error: {why}\n"))
-
-
-def main():
-    words = usage(__doc__, count="how many networks", seed="the first seed")
-    words.add_argument("--program", help="the program")
-    given = words.parse_args()
-    looks = NetLooks("net", built(given.program, "cbrelay"))
-    first = int(given.seed or SEED)
-    for place in range(int(given.count or COUNT)):
-        looks.network(first + place, place % AGAIN == 0)
-    looks.calm()
-    looks.least()
-    looks.times()
-    looks.progress()
-    looks.refusals()
-    return looks.told()
+            self.look(words, self.ran("net", *words.split()), (3, "", f"error: {why}\n"))
 
 
 if __name__ == "__main__":
-    sys.exit(main())
+    sys.exit(NetLooks.main(__doc__, count="how many networks", seed="the first seed"))

@@ -1,34 +1,24 @@
 #!/usr/bin/env python3
-"""Runs a process `cbrelay node` with a plain reader of compact blocks as its peer: python3 bench/looks/node_compact.py [PROGRAM]
+"""Runs a process `cbrelay node` with a plain reader of compact blocks as its peer: python3 bench/looks/node_compact.py [PROGRAM] [--only
+LOOK]
 
-It needs the built program (crates/cbrelay/out/cbrelay, as ./build leaves it), python3 and Linux, and takes some seconds. The peer is written
-from BIP 152 (bench/models/plain_compact.py), apart from the program.
-
-- From the node: a peer that wants them unasked gets each block that the operator mines as a compact one, and rebuilds it from all, half or none
-  of its transactions. One that doesn't is told headers, and asks. Below the sixth block a block comes whole.
-- To the node: it rebuilds a block at once where its mempool has all transactions, asks for the places that it lacks, and asks for the whole
-  block where the list isn't that of the header. `peers` counts each.
-
-The status is 0 where all came out so.
+It needs the program, python3 and Linux, and takes some seconds. The peer is written
+from BIP 152 (bench/models/plain_compact.py), apart from the program. --help tells the looks. The status is 0 where all came out so.
 """
 
 import sys
 from pathlib import Path
 
-if not __package__:  # called as a file
-    sys.path.insert(0, str(Path(__file__).resolve().parents[2]))
+sys.path.insert(0, str(Path(__file__).resolve().parents[2]))
 
 from bench.models import plain_wire as wire
-from bench.models.plain_block import NULL_POINT, AnyTx, MinedBlock
+from bench.models.plain_block import NULL_POINT, MinedBlock, Tx
 from bench.models.plain_compact import judged, key_of, short_id
 from bench.models.plain_hall import DEPTH
-from bench.tools.command_line import usage
-from bench.tools.messages import envelope
-from bench.tools.network import GENESIS
-from bench.tools.node_scripts import GIVEN, SUBSIDY
-from bench.tools.plain_peer import BLOCK, COMPACT, dialled
-from bench.tools.process_talk import NodeProcess, ProcessLooks, shown
-from bench.tools.programs import built
+from bench.tools.basics import GENESIS, envelope, shown
+from bench.tools.made_blocks import GIVEN, SUBSIDY
+from bench.tools.plain_peer import USUAL, dialled
+from bench.tools.process_talk import NodeProcess, ProcessLooks
 
 # How many transactions a relayed block has.
 TXS = 40
@@ -39,7 +29,7 @@ class Compact(ProcessLooks):
 
     def given(self, node, chain, txs, known):
         """The node's operator gives it the outputs that these transactions spend, and the first of them."""
-        self.look("submit-block", node.say(f"submit-block {chain[0].text.hex()}"), f"submitted {shown(chain[0].header.name)}")
+        self.submits(node, chain[0])
         told = node.say_all([f"tx {tx.text.hex()}" for tx in txs[:known]])
         self.look("tx", told, [f"tx {shown(tx.name)}" for tx in txs[:known]])
 
@@ -48,16 +38,17 @@ class Compact(ProcessLooks):
 
     # ---- from the node
 
-    def unasked(self):
-        """A peer that wants compact blocks unasked, and knows all, half or none of a block's transactions."""
+    def look_unasked(self):
+        """A peer that wants compact blocks unasked rebuilds each that the operator mines, of whose transactions it knows all, half or
+        none."""
         for known in (TXS, TXS // 2, 0):
             chain, txs = funded()
-            with NodeProcess(self.program) as node, dialled(node.port()) as peer:
+            with NodeProcess(self.program) as node, dialled(node.port) as peer:
                 self.given(node, chain, txs, TXS)
                 peer.shake_hands(wire.sendcmpct(1, 1))
-                self.look("a pong", peer.pinged(1, ("sendheaders", "sendcmpct", "getheaders", "inv")), True)
-                self.begins("mine", "mined 1 tip 2", node.say("mine"))
-                short = peer.expect("cmpctblock", ("sendheaders", "sendcmpct", "getheaders", "inv"))
+                self.look("a pong", peer.pinged(1, (*USUAL, "inv")), True)
+                self.mines(node, height=2)
+                short = peer.expect("cmpctblock", (*USUAL, "inv"))
                 self.look("its header", shown(short.header.name), node.tip()[1])
                 texts, asked = peer.rebuilt(short, txs[:known])
                 self.look("how many are asked for", asked, TXS - known)
@@ -65,37 +56,38 @@ class Compact(ProcessLooks):
                 self.look("its transactions", texts[1:], [tx.text for tx in txs])
                 self.ends(node)
 
-    def asked_for(self):
+    def look_asked_for(self):
         """A peer that doesn't want them unasked is told headers, and asks. A block that lies deep comes whole."""
         chain, txs = funded()
-        with NodeProcess(self.program) as node, dialled(node.port()) as peer:
+        with NodeProcess(self.program) as node, dialled(node.port) as peer:
             self.given(node, chain, txs, TXS)
             peer.shake_hands(envelope(b"sendheaders", b""), wire.sendcmpct(0, 1))
-            self.look("a pong", peer.pinged(1, ("sendheaders", "sendcmpct", "getheaders", "inv")), True)
-            self.begins("mine", "mined 1 tip 2", node.say("mine"))
+            self.look("a pong", peer.pinged(1, (*USUAL, "inv")), True)
+            self.mines(node, height=2)
             (header,) = peer.expect("headers", ("inv",))
-            peer.send(wire.entries(b"getdata", [(COMPACT, header.name)]))
+            peer.send(wire.entries(b"getdata", [(wire.COMPACT, header.name)]))
             short = peer.expect("cmpctblock")
             texts, asked = peer.rebuilt(short, txs)
             self.look("how many are asked for", asked, 0)
             self.is_sound(short, texts)
-            peer.send(wire.entries(b"getdata", [(BLOCK, header.name)]))
+            peer.send(wire.entries(b"getdata", [(wire.BLOCK, header.name)]))
             self.look("the block", [tx.text for tx in peer.expect("block").txs], texts)
             node.say(f"mine {DEPTH + 1}")
-            peer.send(wire.entries(b"getdata", [(COMPACT, header.name)]))
+            peer.send(wire.entries(b"getdata", [(wire.COMPACT, header.name)]))
             self.look("the deep block", peer.expect("block", ("headers", "inv")).header.name, header.name)
             self.ends(node)
 
     # ---- to the node
 
-    def rebuilt(self):
-        """The peer tells compact blocks: one whose transactions the node has, one of which it lacks half, and one with another list."""
+    def look_rebuilt(self):
+        """The peer tells compact blocks: one whose transactions the node has, one of which it lacks half, and one with another list, which
+        is asked for whole. `peers` counts each."""
         chain, txs = funded()
         known = TXS // 2
-        with NodeProcess(self.program) as node, dialled(node.port()) as peer:
+        with NodeProcess(self.program) as node, dialled(node.port) as peer:
             self.given(node, chain, txs, known)
             peer.shake_hands(wire.sendcmpct(0, 1))
-            self.look("a pong", peer.pinged(1, ("sendheaders", "sendcmpct", "getheaders", "inv")), True)
+            self.look("a pong", peer.pinged(1, (*USUAL, "inv")), True)
             all_known, half, other = split(chain, txs, known)
             saved = len(all_known.text) - peer.announce(all_known, 11)
             self.taken(node, peer, all_known, (0, 1, 0, 0), saved)
@@ -112,7 +104,7 @@ class Compact(ProcessLooks):
             peer.announce(other, 13, wrong)
             self.look("the places asked for", peer.asked_places(other), [1])
             peer.send(wire.blocktxn(other.header.name, [all_known.txs[1].text]))
-            self.look("what is asked for then", peer.expect("getdata"), [(BLOCK, other.header.name)])
+            self.look("what is asked for then", peer.expect("getdata"), [(wire.BLOCK, other.header.name)])
             peer.send(envelope(b"block", other.text))
             self.taken(node, peer, other, (0, 1, 1, 1), saved)
             self.ends(node)
@@ -129,29 +121,21 @@ class Compact(ProcessLooks):
 
 def funded():
     """A block whose coinbase has many outputs, as a list, and a transaction that spends each."""
-    fan = AnyTx([(NULL_POINT, b"\1\0\0\0" + bytes([GIVEN]))], [SUBSIDY // TXS] * TXS)
-    txs = [AnyTx([((fan.name, index), bytes(100))], [value - 1]) for index, value in enumerate(fan.values)]
+    fan = Tx([(NULL_POINT, b"\1\0\0\0" + bytes([GIVEN]))], [SUBSIDY // TXS] * TXS)
+    txs = [Tx([((fan.name, index), bytes(100))], [value - 1]) for index, value in enumerate(fan.values)]
     return [MinedBlock(GENESIS, 1, [fan])], txs
 
 
 def split(chain, txs, known):
     """Three blocks, one on the other: of the first transactions, of the others, and of a further one."""
     blocks, name = [], chain[-1].header.name
-    last = AnyTx([((txs[0].name, 0), bytes(100))], [txs[0].values[0] - 1])
+    last = Tx([((txs[0].name, 0), bytes(100))], [txs[0].values[0] - 1])
     for height, mine in enumerate((txs[:known], txs[known:], [last]), 2):
-        coinbase = AnyTx([(NULL_POINT, height.to_bytes(4, "little") + bytes([GIVEN]))], [SUBSIDY])
+        coinbase = Tx([(NULL_POINT, height.to_bytes(4, "little") + bytes([GIVEN]))], [SUBSIDY])
         blocks.append(MinedBlock(name, height, [coinbase, *mine]))
         name = blocks[-1].header.name
     return blocks
 
 
-def main():
-    given = usage(__doc__, program="the program").parse_args()
-    looks = Compact("node_compact", built(given.program, "cbrelay"))
-    for look in (looks.unasked, looks.asked_for, looks.rebuilt):
-        looks.make(look)
-    return looks.told()
-
-
 if __name__ == "__main__":
-    sys.exit(main())
+    sys.exit(Compact.main(__doc__))

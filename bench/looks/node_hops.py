@@ -1,21 +1,9 @@
 #!/usr/bin/python3
-"""Looks at blocks that hop from process to process, and at bursts of them: /usr/bin/python3 bench/looks/node_hops.py [PROGRAM] [--only NAME]
+"""Looks at blocks that hop from process to process, and at bursts of them: /usr/bin/python3 bench/looks/node_hops.py [PROGRAM] [--only
+LOOK]
 
-It needs the built program (crates/cbrelay/out/cbrelay, as ./build leaves it), Linux, and Debian's package python3-bitcoinlib, which that
-python3 finds. It takes some minutes.
-
-- Hops: with a tick of a minute a new tip comes to each peer in seconds, so it doesn't wait for the tick: as a compact block, by its header or
-  by its hash, whoever brought it; through a line of three too, and to the client library.
-- Bursts: ten times a node mines 1,000 blocks by one line. A peer of it and that peer's peer have them soon. Over each link at most one block in
-  50 is asked for again (one that is told unasked while it is on its way), and at most 800 KB go to the one and 1,200 to the other. The client
-  library fetches them from both, and judges each by its CheckBlock.
-- The client library as a miner, which tells 1,000 blocks, some as compact ones and some before their parents: it is asked for headers no more
-  than once for each that came before its parent, and for few blocks again.
-- A chain of 20,000 blocks, which one node fetches while a third one follows it.
-- No `inv` of a transaction goes to a peer whose `version` said no. It is sent one that it asks for.
-- Headers that a peer never sends are asked for again once it was sent a `ping`, 30 seconds later.
-
-The status is 0 where all came out so.
+It needs the program, Linux, and Debian's package python3-bitcoinlib, which that
+python3 finds. It takes some minutes. --help tells the looks. The status is 0 where all came out so.
 """
 
 import random
@@ -23,22 +11,18 @@ import sys
 import time
 from pathlib import Path
 
-if not __package__:  # called as a file
-    sys.path.insert(0, str(Path(__file__).resolve().parents[2]))
+sys.path.insert(0, str(Path(__file__).resolve().parents[2]))
 
 from bitcoin.core import CheckBlock, CheckBlockError, ValidationError, b2lx, lx
 
 from bench.models import plain_wire as wire
+from bench.tools.basics import GENESIS, envelope
 from bench.tools.between import Between
-from bench.tools.command_line import usage
-from bench.tools.library_peer import BLOCK, REGTEST_GENESIS, TX, dialled, grown, spending
-from bench.tools.messages import envelope
-from bench.tools.network import GENESIS
-from bench.tools.node_line import NodeLine, short_form, short_told
-from bench.tools.node_scripts import GIVEN, mined
+from bench.tools.library_peer import BLOCK, REGTEST_GENESIS, TX, Offering, dialled, grown, spending
+from bench.tools.made_blocks import mined
+from bench.tools.node_line import NodeLine, short_told
 from bench.tools.plain_peer import dialled as plainly_dialled
 from bench.tools.process_talk import NodeProcess, ProcessLooks
-from bench.tools.programs import built
 
 # A tick so seldom that nothing comes by it, in ms. How many seconds a hop may take at the most, and all hops of a look.
 SELDOM, SOON, ALL_OF_THEM, HOPS = "60000", 5, 30, 10
@@ -58,43 +42,47 @@ KINDS = ("sendheaders", "sendcmpct", "getheaders", "inv", "headers", "cmpctblock
 class Hops(ProcessLooks):
     """Blocks that hop, one by one and many at once."""
 
+    def end_all(self, nodes):
+        for node in nodes:
+            self.ends(node, "quit", drops=None)
+
     # ---- hops
 
-    def a_tip_doesnt_wait_for_the_tick(self):
-        """Each peer is told in its way of blocks that a peer or the operator brought."""
+    def look_a_tip_doesnt_wait_for_the_tick(self):
+        """With a tick of a minute each peer is told in seconds, in its way, of blocks that a peer or the operator brought."""
         began = time.monotonic()
-        with NodeProcess(self.program, "--tick", SELDOM) as node:
-            port = node.port()
-            source, unasked, headers, names = (plainly_dialled(port, SOON) for _ in range(4))
-            for peer, further in ((source, ()), (unasked, (wire.sendcmpct(1, 1),)), (headers, (envelope(b"sendheaders", b""),)), (names, ())):
-                peer.shake_hands(*further)
-                self.look("a pong", peer.pinged(1), True)
-            name = GENESIS
-            for height in range(1, HOPS + 1):
-                block = self.brought(node, source, name, height)
-                name = block.header.name if block else lx(node.tip()[1])
-                self.look("the compact block", unasked.expect("cmpctblock", KINDS[:4]).header.name, name)
-                self.look("the header", [it.name for it in headers.expect("headers", KINDS[:4])], [name])
-                self.look("the hash", names.expect("inv", KINDS[:3]), [(BLOCK, name)])
-            self.look(f"whether {HOPS} blocks come in {ALL_OF_THEM} s", time.monotonic() - began < ALL_OF_THEM, True)
-            for peer in (source, unasked, headers, names):
-                peer.stream.close()
-            self.ends(node, "quit")
+        node = self.node("--tick", SELDOM)
+        port = node.port
+        source, unasked, headers, names = (plainly_dialled(port, SOON) for _ in range(4))
+        for peer, further in ((source, ()), (unasked, (wire.sendcmpct(1, 1),)), (headers, (envelope(b"sendheaders", b""),)), (names, ())):
+            peer.shake_hands(*further)
+            self.look("a pong", peer.pinged(1), True)
+        name = GENESIS
+        for height in range(1, HOPS + 1):
+            block = self.brought(node, source, name, height)
+            name = block.header.name if block else lx(node.tip()[1])
+            self.look("the compact block", unasked.expect("cmpctblock", KINDS[:4]).header.name, name)
+            self.look("the header", [it.name for it in headers.expect("headers", KINDS[:4])], [name])
+            self.look("the hash", names.expect("inv", KINDS[:3]), [(BLOCK, name)])
+        self.most(f"when {HOPS} blocks have come", time.monotonic() - began, ALL_OF_THEM)
+        for peer in (source, unasked, headers, names):
+            peer.stream.close()
+        self.ends(node, "quit")
 
     @staticmethod
     def brought(node, source, name, height):
         """A block of this height, in one of four ways. One that the node mines isn't known here."""
-        block, way = mined(name, height, GIVEN), height % 4
+        block, way = mined(name, height), height % 4
         if way == 0:
             node.say("mine")
             return None
         if way == 1:
             node.say(f"submit-block {block.text.hex()}")
         else:
-            source.send(envelope(b"block", block.text) if way == 2 else short_form(block))
+            source.send(envelope(b"block", block.text) if way == 2 else wire.compact(block, 7))
         return block
 
-    def a_line_of_three(self):
+    def look_a_line_of_three(self):
         """A block goes through three nodes, and to the client library at the last one."""
         began = time.monotonic()
         with NodeLine(self.program, 3, "--tick", SELDOM) as line, dialled(line.ports[-1], SOON) as library:
@@ -103,29 +91,29 @@ class Hops(ProcessLooks):
             self.look("a pong", sink.pinged(1), True)
             name, longest = GENESIS, 0
             for height in range(1, HOPS + 1):
-                block, told = mined(name, height, GIVEN), time.monotonic()
+                block, told = mined(name, height), time.monotonic()
                 name = block.header.name
-                source.send(short_form(block) if height > 1 else envelope(b"block", block.text))
+                source.send(wire.compact(block, 7) if height > 1 else envelope(b"block", block.text))
                 sink.stream.settimeout(SOON)
                 short_told(sink, block.header.text)
                 longest = max(longest, time.monotonic() - told)
                 self.look("what the library is told", library.told(), [(BLOCK, name)])
-            print(f"{self.name}: through three nodes in {longest * 1e3:.0f} ms at the most")
-            self.look(f"whether {HOPS} blocks come in {ALL_OF_THEM} s", time.monotonic() - began < ALL_OF_THEM, True)
-            for node in line.nodes:
-                self.ends(node, "quit", drops=None)
+            self.tell(f"through three nodes in {longest * 1e3:.0f} ms at the most")
+            self.most(f"when {HOPS} blocks have come", time.monotonic() - began, ALL_OF_THEM)
+            self.end_all(line.nodes)
 
     # ---- bursts
 
-    def mined_at_once(self):
-        """Ten times 1,000 blocks at a peer and at a peer's peer, and the client library at both."""
+    def look_mined_at_once(self):
+        """Ten times 1,000 blocks are mined by one line, and are soon at a peer and at a peer's peer. At most one in 50 is asked for again,
+        and at most 800 KB go to the one and 1,200 to the other. The client library fetches them from both, and judges each by its
+        CheckBlock."""
         with NodeLine(self.program, 3, counts=True) as line:
             libraries = [Fetching(self, dialled(port, SECONDS)) for port in line.ports[1:]]
             for _ in range(TIMES):
                 before = [link.bytes() for link in line.links]
-                self.begins("mine", f"mined {MINED}", line.nodes[0].say(f"mine {MINED}"))
-                tip = line.nodes[0].tip()
-                self.comes(f"the tip at height {tip[0]}", line.nodes[0], lambda tip=tip: line.have_tip(tip), SECONDS)
+                tip = self.mines(line.nodes[0], MINED)
+                self.stands_at(tip, *line.nodes, seconds=SECONDS)
                 for library in libraries:
                     self.look("what the library fetches", library.fetched(lx(tip[1])), MINED)
                 for what, limit, link, size in zip(("a peer", "its peer"), (BYTES, FURTHER), line.links, before):
@@ -134,62 +122,59 @@ class Hops(ProcessLooks):
                 self.come_once("a burst", link.asked, MINED * TIMES)
             for library in libraries:
                 library.close()
-            for node in line.nodes:
-                self.ends(node, "quit", drops=None)
+            self.end_all(line.nodes)
 
     def is_bounded(self, what, size, blocks, limit=FURTHER):
-        print(f"{self.name}: {what}: {size / blocks:.0f} bytes a block")
-        self.look(f"{what}: whether {size:,} bytes for {blocks:,} blocks aren't more than {limit} each", size <= limit * blocks, True)
+        self.tell(f"{what}: {size / blocks:.0f} bytes a block")
+        self.most(f"{what}: bytes for each of {blocks:,} blocks", size / blocks, limit)
 
     def come_once(self, what, asked, blocks):
         """But for few blocks each is asked for once at most, and none more than twice."""
         again = sum(count - 1 for count in asked.values())
-        print(f"{self.name}: {what}: {again} of {blocks:,} blocks were asked for again")
-        self.look(f"{what}: whether {again} of {blocks:,} aren't more than one in {SELDOM_AGAIN}", SELDOM_AGAIN * again <= blocks, True)
-        self.look(f"{what}: whether a block is asked for twice at most", max(asked.values(), default=0) <= 2, True)
+        self.tell(f"{what}: {again} of {blocks:,} blocks were asked for again")
+        self.most(f"{what}: blocks asked for again", again, blocks / SELDOM_AGAIN)
+        self.most(f"{what}: how often a block is asked for", max(asked.values(), default=0), 2)
 
-    def a_library_that_mines(self):
-        """The library tells blocks one by one; in the second half now and then one is left out, and then told before it."""
+    def look_a_library_that_mines(self):
+        """The library tells 1,000 blocks one by one, some as compact ones; in the second half now and then one is left out, and then told
+        before it. It is asked for headers no more than once for each of these, and for few blocks again."""
         blocks = grown(REGTEST_GENESIS, 0, MINED, b"burst")
         with NodeLine(self.program, 2, counts=True) as line, dialled(line.ports[0], SECONDS) as peer:
             peer.shake_hands()
             miner, tip = Mining(peer, blocks), (MINED, b2lx(blocks[-1].GetHash()))
             miner.tell_all(random.Random(1))
             self.comes("the tip of both", line.nodes[0], lambda: miner.has_answered(PAUSE) and line.have_tip(tip), SECONDS)
-            print(f"{self.name}: the library was asked for headers {miner.questions} times, and told {miner.headers}")
+            self.tell(f"the library was asked for headers {miner.questions} times, and told {miner.headers}")
             self.come_once("the library", miner.asked, MINED)
             self.look("whether it is asked for headers once at most for each on an unknown one", miner.questions <= miner.told_unknown, True)
             self.come_once("the next one", line.links[0].asked, MINED)
             self.is_bounded("to the next one", line.links[0].bytes(), MINED)
-            for node in line.nodes:
-                self.ends(node, "quit", drops=None)
+            self.end_all(line.nodes)
 
-    def a_third_follows(self):
-        """A node fetches a long chain, and another one follows it meanwhile."""
-        with NodeProcess(self.program, seconds=LONG_SECONDS) as first, Between(first.address()) as one:
+    def look_a_third_follows(self):
+        """A node fetches a chain of 20,000 blocks, and another one follows it meanwhile."""
+        with NodeProcess(self.program, seconds=LONG_SECONDS) as first, Between(first.at) as one:
             for _ in range(LONG // MINED):
                 first.say(f"mine {MINED}")
             tip = first.tip()
-            with NodeProcess(self.program, seconds=LONG_SECONDS) as second, Between(second.address()) as other:
+            with NodeProcess(self.program, seconds=LONG_SECONDS) as second, Between(second.at) as other:
                 with NodeProcess(self.program, "--connect", other.address, seconds=LONG_SECONDS) as third:
-                    third.address()
-                    self.comes("the handshake", third, lambda: [peer.phase for peer in third.peers()] == ["ready"])
+                    self.has_peers(third, 1)
                     began = time.monotonic()
                     self.begins("connect", "connected", second.say(f"connect {one.address}"))
                     self.comes("the tip", second, lambda: second.tip() == third.tip() == tip, LONG_SECONDS)
-                    print(f"{self.name}: {LONG} blocks and a third node in {time.monotonic() - began:.1f} s")
+                    self.tell(f"{LONG} blocks and a third node in {time.monotonic() - began:.1f} s")
                     for what, link in (("the chain", one), ("the third", other)):
                         self.come_once(what, link.asked, LONG)
                         self.is_bounded(what, link.bytes(), LONG)
-                    for node in (third, second, first):
-                        self.ends(node, "quit", drops=None)
+                    self.end_all((third, second, first))
 
     # ---- the relay byte, and a peer that owes headers
 
-    def no_transactions(self):
-        """Two peers: one wants to be told of transactions, and the other doesn't."""
+    def look_no_transactions(self):
+        """No `inv` of a transaction goes to a peer whose `version` said no. It is sent one that it asks for."""
         blocks = grown(REGTEST_GENESIS, 0, 5, b"relay")
-        with NodeProcess(self.program) as node, dialled(node.port(), SECONDS) as wants, dialled(peers_port(wants), SECONDS) as refuses:
+        with NodeProcess(self.program) as node, dialled(node.port, SECONDS) as wants, dialled(peers_port(wants), SECONDS) as refuses:
             for block in blocks:
                 self.begins("submit-block", "submitted", node.say(f"submit-block {block.serialize().hex()}"))
             wants.shake_hands()
@@ -208,10 +193,10 @@ class Hops(ProcessLooks):
             self.look("what both are told of a block", [peer.told() for peer in (wants, refuses)], [[(BLOCK, tip)]] * 2)
             self.ends(node, "quit", drops=None)
 
-    def headers_that_never_come(self):
-        """A peer tells of unknown blocks and never answers. It is asked once, and again behind a probe."""
+    def look_headers_that_never_come(self):
+        """A peer tells of unknown blocks and never answers. It is asked once, and again behind a `ping`, 30 seconds later."""
         blocks = grown(REGTEST_GENESIS, 0, 3, b"owed")
-        with NodeProcess(self.program) as node, dialled(node.port(), PROBE + LATE) as peer:
+        with NodeProcess(self.program) as node, dialled(node.port, PROBE + LATE) as peer:
             peer.shake_hands()
             peer.tell(BLOCK, blocks[1].GetHash())
             self.look("behind which it asks", peer.receive().command, b"getheaders")
@@ -222,7 +207,7 @@ class Hops(ProcessLooks):
             told = peer.receive()
             self.look("what comes next", told.command, b"ping")
             took = time.monotonic() - began
-            print(f"{self.name}: a probe after {took:.1f} s")
+            self.tell(f"a probe after {took:.1f} s")
             self.look(f"whether {took:.1f} s are right", PROBE - 1 <= took <= PROBE + LATE, True)
             peer.tell(BLOCK, blocks[2].GetHash())
             self.look("behind which it asks then", peer.receive().command, b"getheaders")
@@ -268,31 +253,27 @@ class Fetching:
         return len(names)
 
 
-class Mining:
+class Mining(Offering):
     """The client library as a peer that tells its blocks one by one, and answers what it is asked in between."""
 
     def __init__(self, peer, blocks):
-        self.peer, self.blocks = peer, blocks
-        self.places = {block.GetHash(): place for place, block in enumerate(blocks)}
-        # How many blocks it has mined, what it was asked for, and how many headers it told; how often it told of a block on an unknown one.
-        self.count, self.asked, self.questions, self.headers, self.told_unknown = 0, {}, 0, 0, 0
+        super().__init__(peer)
+        # All that it mines, and how often it told of a block on an unknown one.
+        self.all, self.told_unknown = blocks, 0
 
     def tell_all(self, rng):
         """Tells each block by a header of its own, or as a compact one; in the second half several at once by the last of them. Now and then it
         answers what it was asked."""
-        while self.count < len(self.blocks):
-            steps = 1 if self.count < len(self.blocks) // 2 else rng.choice([1, 1, 1, 2, 9])
-            self.count = min(self.count + steps, len(self.blocks))
+        while len(self.blocks) < len(self.all):
+            steps = 1 if len(self.blocks) < len(self.all) // 2 else rng.choice([1, 1, 1, 2, 9])
+            self.turn_to(self.all[: len(self.blocks) + steps])
             self.told_unknown += steps > 1
-            self.tell(self.blocks[self.count - 1], rng)
+            if rng.random() < 0.5:
+                self.peer.tell_headers(self.blocks[-1:])
+            else:
+                self.peer.socket.sendall(wire.compact(wire.read("block", self.blocks[-1].serialize()), 7))
             if rng.random() < 0.3:
                 self.has_answered(0)
-
-    def tell(self, block, rng):
-        if rng.random() < 0.5:
-            self.peer.tell_headers([block])
-        else:
-            self.peer.socket.sendall(short_form(wire.read("block", block.serialize())))
 
     def has_answered(self, seconds):
         """Answers all that comes, until nothing does for so long. Always true."""
@@ -300,32 +281,6 @@ class Mining:
             self.answer()
         return True
 
-    def answer(self):
-        """Answers one message."""
-        message = self.peer.receive()
-        if message.command == b"getheaders":
-            self.questions += 1
-            start = next((self.places[name] + 1 for name in message.locator.vHave if name in self.places), 0)
-            told = self.blocks[start : self.count][:2_000]
-            self.headers += len(told)
-            self.peer.tell_headers(told)
-        elif message.command == b"getdata":
-            for entry in message.inv:
-                self.asked[entry.hash] = self.asked.get(entry.hash, 0) + 1
-                self.peer.give_block(self.blocks[self.places[entry.hash]])
-
-
-def main():
-    words = usage(__doc__, program="the program, if not crates/cbrelay/out/cbrelay")
-    words.add_argument("--only", help="one look alone")
-    given = words.parse_args()
-    looks = Hops("node_hops", built(given.program, "cbrelay"))
-    for look in (looks.a_tip_doesnt_wait_for_the_tick, looks.a_line_of_three, looks.mined_at_once, looks.a_library_that_mines, looks.a_third_follows,
-                 looks.no_transactions, looks.headers_that_never_come):
-        if given.only in (None, look.__name__):
-            looks.make(look)
-    return looks.told()
-
 
 if __name__ == "__main__":
-    sys.exit(main())
+    sys.exit(Hops.main(__doc__))

@@ -1,48 +1,29 @@
 #!/usr/bin/env python3
 """Runs a process `cbrelay node` with many peers and with ones that behave badly: python3 bench/looks/node_hostile.py [PROGRAM] [--whole]
-[--only NAME]
+[--only LOOK]
 
-It needs the built program (crates/cbrelay/out/cbrelay, as ./build leaves it), python3 and Linux, and takes some two minutes, with --whole
+It needs the program, python3 and Linux, and takes some two minutes, with --whole
 some ten. Beside each peer another node is linked, and blocks go on to it in time. Of each look the processor's time, the most memory and what
-it grew by are told.
-
-- 64 connections at once: 48 peers dial the node, and it dials 16. One more of each is turned away. A block is told to all.
-- A peer that sends a byte a second: it says a ping so, in part only without --whole.
-- Peers that ask for many blocks: one never reads, one reads a byte each second, with --whole each 20 seconds, and one reads all, but late. The
-  first two connections end with WriteFault once their sockets were still.
-- Peers that ask for more blocks than an outbox holds, and for 2,000 headers again and again, and don't wait for answers: one that reads gets
-  all, one that doesn't ends with WriteFault.
-- Peers that ask 50,000 times for a block of 1,000,000 bytes in one message and don't read: two by two handlers, eight by eight, and two that
-  ask for it as a compact block. A peer beside them gets each answer within a second, and the memory stays below 300 MB.
-- A peer that asks 500 times for such a block in one message gets all, though it reads slowly, or closed its side behind the message.
-- Peers that send messages of 4,000,000 bytes without end, for some seconds: ones of an unknown command, and ones that can't be read.
-- Connections that open and close at once, 1,000 of them, with --whole 10,000: threads and descriptors are given back.
-- With --whole, connections until all slots are used up, which is told, and `restart` mends.
-
-The status is 0 where all came out so.
+it grew by are told. --help tells the looks. The status is 0 where all came out so.
 """
 
 import hashlib
 import socket
-import struct
 import sys
 import threading
 import time
 from contextlib import ExitStack, contextmanager
 from pathlib import Path
 
-if not __package__:  # called as a file
-    sys.path.insert(0, str(Path(__file__).resolve().parents[2]))
+sys.path.insert(0, str(Path(__file__).resolve().parents[2]))
 
 from bench.models import plain_wire as wire
 from bench.models.plain_block import sized
-from bench.tools.command_line import usage
-from bench.tools.messages import envelope
-from bench.tools.network import GENESIS
-from bench.tools.node_scripts import GIVEN, mined
-from bench.tools.plain_peer import BLOCK, COMPACT, HELLO, USUAL, PlainPeer, dialled
-from bench.tools.process_talk import NodeProcess, ProcessLooks, Stopwatch, shown
-from bench.tools.programs import built
+from bench.models.plain_wire import BLOCK, COMPACT
+from bench.tools.basics import GENESIS, envelope, shown
+from bench.tools.made_blocks import mined
+from bench.tools.plain_peer import HELLO, USUAL, PlainPeer, dialled
+from bench.tools.process_talk import ProcessLooks, Stopwatch, connected
 
 # How many slots serve peers that dial a node, how many those that it dials, and how many connections a slot serves.
 INBOUND, OUTBOUND, CONNECTIONS = 48, 16, 256
@@ -65,43 +46,36 @@ LATE = 5
 HUGE, FLOOD, GROWTH = 4_000_000, 5, 100_000_000
 # In how many seconds all slots are used up at the most.
 USED_UP = 400
-PING = envelope(b"ping", struct.pack("<Q", 7))
-PONG = envelope(b"pong", struct.pack("<Q", 7))
+PING = wire.ping(7)
+# What a node tells a peer that says nothing but its hello.
+ANY = ("version", "verack", *USUAL, "inv")
 
 
 class Hostile(ProcessLooks):
     """A node, another node that is linked to it, and peers that are none."""
 
-    def __init__(self, program, whole):
-        super().__init__("node_hostile", program)
-        self.whole = whole
-
     @contextmanager
     def pair(self, *words, ends=True):
         """Two linked nodes: the port of the first comes with them. What the first one took is told at the end, and both end well. Without
         `ends` the first is killed: its audit would compare each block that was asked for, byte by byte."""
-        with NodeProcess(self.program, *words, seconds=PATIENCE) as node:
-            port = node.port()
-            with NodeProcess(self.program, "--connect", f"127.0.0.1:{port}", seconds=PATIENCE) as other:
-                other.address()
-                self.comes("the link", node, lambda: [peer.phase for peer in node.peers()] == ["ready"])
-                before, spent, began = node.memory(), node.processor_ms(), time.monotonic()
-                yield node, other, port
-                took, spent = time.monotonic() - began, node.processor_ms() - spent
-                print(f"{self.name}: {took:.1f} s, {spent:.0f} ms of the processor, memory {before / 1e6:.0f} MB before, "
-                      f"{node.memory('VmHWM') / 1e6:.0f} MB at the most, {node.memory() / 1e6:.0f} MB at last")
-                self.ends(other, drops=None)
-            if ends:
-                self.ends(node, drops=None)
+        node = self.node(*words, seconds=PATIENCE)
+        port = node.port
+        other = self.node("--connect", f"127.0.0.1:{port}", seconds=PATIENCE)
+        self.has_peers(node, 1)
+        before, spent, began = node.memory(), node.processor_ms(), time.monotonic()
+        yield node, other, port
+        took, spent = time.monotonic() - began, node.processor_ms() - spent
+        self.tell(f"{took:.1f} s, {spent:.0f} ms of the processor, memory {before / 1e6:.0f} MB before, "
+                  f"{node.memory('VmHWM') / 1e6:.0f} MB at the most, {node.memory() / 1e6:.0f} MB at last")
+        self.ends(other, drops=None)
+        if ends:
+            self.ends(node, drops=None)
 
     def block_in_time(self, node, other):
         """A block that the node mines comes to the other in time."""
         watch = Stopwatch(node, other)
-        self.begins("mine", "mined 1", node.say("mine"))
-        tip = node.tip()
-        if self.comes("the block", other, lambda: other.tip() == tip):
-            took = watch.seconds()
-            self.look(f"whether {took:.1f} s aren't more than {SOON}", took <= SOON, True)
+        self.stands_at(self.mines(node), other)
+        self.most("when the block comes", watch.seconds(), SOON)
 
     @staticmethod
     def end(node, slot):
@@ -115,8 +89,9 @@ class Hostile(ProcessLooks):
 
     # ---- many at once
 
-    def sixty_four_at_once(self):
-        """48 peers dial the node, of which one is the other node, and it dials 16."""
+    def look_sixty_four_at_once(self):
+        """48 peers dial the node, of which one is the other node, and it dials 16. One more of each is turned away. A block is told to
+        all."""
         with self.pair() as (node, other, port), ExitStack() as stack:
             threads = node.threads()
             listener = stack.enter_context(socket.create_server(("127.0.0.1", 0), backlog=64))
@@ -128,20 +103,20 @@ class Hostile(ProcessLooks):
                 peers.append(stack.enter_context(PlainPeer(one.accept()[0])))
             for peer in peers:
                 peer.send(HELLO)
-            self.comes("64 handshakes", node, lambda: [one.phase for one in node.peers()] == ["ready"] * (INBOUND + OUTBOUND))
+            self.has_peers(node, INBOUND + OUTBOUND)
             self.look("a dial more", node.say(f"connect {hosts[OUTBOUND]}"), "error no slot")
             # The log has a line of it if it had few about connections within a second.
             time.sleep(1.5)
-            with socket.create_connection(("127.0.0.1", port), PATIENCE) as more:
+            with connected(port, PATIENCE) as more:
                 self.look("a peer more", more.recv(1), b"")
             self.logs(node, "a peer was turned away: no slot is free")
             began = time.monotonic()
             self.block_in_time(node, other)
             name = node.tip()[1]
             for peer in peers:
-                ((_, told),) = peer.expect("inv", ("version", "verack", "sendheaders", "sendcmpct", "getheaders"))
+                ((_, told),) = peer.expect("inv", ANY[:-1])
                 self.look("the block that is told", shown(told), name)
-            print(f"{self.name}: a block is told to 64 peers in {time.monotonic() - began:.2f} s; {node.threads()} threads")
+            self.tell(f"a block is told to 64 peers in {time.monotonic() - began:.2f} s; {node.threads()} threads")
             stack.close()
             self.comes("their end", node, lambda: len(node.peers()) == 1)
             # Addresses are dialled again, and each dial has a thread for a moment.
@@ -149,21 +124,22 @@ class Hostile(ProcessLooks):
 
     # ---- slow ones
 
-    def a_byte_a_second(self):
-        """A peer that sends a byte a second. Without --whole that goes on for ten seconds, and the rest comes faster."""
+    def look_a_byte_a_second(self):
+        """A peer that sends a byte a second: a ping. Without --whole that goes on for ten seconds, and the rest comes faster."""
         with self.pair() as (node, other, port), dialled(port) as peer:
             for count, byte in enumerate(HELLO + PING):
                 peer.send(bytes([byte]))
-                time.sleep(1 if self.whole or count < 10 else 0.01)
-                if count % 10 == 0 and (self.whole or count < 11):
+                time.sleep(1 if self.options.whole or count < 10 else 0.01)
+                if count % 10 == 0 and (self.options.whole or count < 11):
                     self.block_in_time(node, other)
-            self.look("the answer", PONG in received(peer, PONG), True)
+            self.look("the answer", peer.expect("pong", ANY), 7)
 
-    def slow_readers(self):
-        """Three peers ask for blocks: one never reads, one reads a byte now and then, and one reads all of it, but late."""
+    def look_slow_readers(self):
+        """Three peers ask for blocks: one never reads, one reads a byte now and then, which end with WriteFault; and one reads all, but
+        late."""
         with self.pair("--handlers", "1") as (node, other, port), ExitStack() as stack:
             request = self.large_block(node, other, MANY)
-            slow = stack.enter_context(reading_bytes(port, 20 if self.whole else 1))
+            slow = stack.enter_context(reading_bytes(port, 20 if self.options.whole else 1))
             silent, late = stack.enter_context(small(port, 4_096)), stack.enter_context(small(port, 65_536))
             for peer in (slow, silent, late):
                 peer.send(HELLO, request)
@@ -183,7 +159,7 @@ class Hostile(ProcessLooks):
                 took, end = ends.get(slot, (PATIENCE, None))
                 self.look(f"the end of {what}", end, "WriteFault")
                 self.look(f"whether {what} ends in time", STILL / 2 < took < ENDED, True)
-                print(f"{self.name}: after {took:.0f} s the connection of {what} had the end {end}")
+                self.tell(f"after {took:.0f} s the connection of {what} had the end {end}")
             self.look("the end of the late one", self.end(node, 3), None)
 
     def reads_late(self, peer):
@@ -191,7 +167,7 @@ class Hostile(ProcessLooks):
         time.sleep(LATE)
         self.look("whether all comes to the late one", read_all(peer, MANY * LARGE), True)
 
-    def more_than_an_outbox_holds(self):
+    def look_more_than_an_outbox_holds(self):
         """A peer that asks for more than may wait for it gets all of it once it reads."""
         with self.pair("--handlers", "1") as (node, other, port), small(port, 65_536) as peer:
             sent_aside(peer, HELLO, *[self.large_block(node, other, ENTRIES, SMALL)] * TOO_MANY)
@@ -200,22 +176,22 @@ class Hostile(ProcessLooks):
             self.look("its end", self.end(node, 1), None)
             self.block_in_time(node, other)
 
-    def headers_again_and_again(self):
-        """A peer that asks for headers again and again, and doesn't wait for them, gets all of them once it reads."""
+    def look_headers_again_and_again(self):
+        """A peer that asks again and again for 2,000 headers, and doesn't wait for them, gets all of them once it reads."""
         with self.pair() as (node, other, port), small(port, 65_536) as peer:
             for _ in range(HEADERS // 1_000):
                 node.say("mine 1000")
-            self.comes("the chain", other, lambda: other.tip() == node.tip())
+            self.stands_at(node.tip(), other)
             peer.send(HELLO, wire.getheaders([GENESIS]) * REQUESTS)
             time.sleep(LATE)
             self.look("whether all come", read_all(peer, REQUESTS * HEADERS * HEADER), True)
             self.look("its end", self.end(node, 1), None)
             most = node.memory("VmHWM")
-            self.look(f"whether {most:,} bytes aren't more than {MEMORY:,}", most <= MEMORY, True)
+            self.most("bytes of memory", most, MEMORY, ",")
             self.block_in_time(node, other)
 
-    def more_than_an_outbox_holds_unread(self):
-        """A peer that asks for more than may wait for it and doesn't read."""
+    def look_more_than_an_outbox_holds_unread(self):
+        """A peer that asks for more than may wait for it and doesn't read ends with WriteFault."""
         with self.pair("--handlers", "1") as (node, other, port), small(port, 4_096) as peer:
             sent_aside(peer, HELLO, *[self.large_block(node, other, ENTRIES, SMALL)] * TOO_MANY)
             watch = Stopwatch(node, other)
@@ -225,25 +201,25 @@ class Hostile(ProcessLooks):
 
     def large_block(self, node, other, count, size=LARGE, kind=BLOCK):
         """The node is given a large block, which comes to the other. A message that asks for it so often comes back."""
-        block = mined(GENESIS, 1, GIVEN)
+        block = mined(GENESIS, 1)
         large = sized(block.header.name, size)
         for one in (block, large):
-            self.begins("submit-block", "submitted", node.say(f"submit-block {one.text.hex()}"))
-        self.comes("the large block", other, lambda: other.tip() == node.tip())
+            self.submits(node, one)
+        self.stands_at(node.tip(), other)
         return wire.entries(b"getdata", [(kind, large.header.name)] * count)
 
     # ---- ones that ask for all that they may
 
-    def many_answers(self):
-        """Two peers ask 50,000 times for a block and don't read."""
+    def look_many_answers(self):
+        """Two peers ask 50,000 times for a block of 1,000,000 bytes and don't read. One beside them is answered within a second."""
         self.asked_and_unread(2, "--handlers", "2")
 
-    def many_answers_at_eight(self):
-        """Eight peers ask 50,000 times for a block and don't read."""
+    def look_many_answers_at_eight(self):
+        """The same of eight peers, by eight handlers."""
         self.asked_and_unread(8, "--handlers", "8")
 
-    def many_short_answers(self):
-        """Two peers ask 50,000 times for a compact block and don't read."""
+    def look_many_short_answers(self):
+        """Two peers ask 50,000 times for it as a compact block and don't read."""
         self.asked_and_unread(2, "--handlers", "2", kind=COMPACT)
 
     def asked_and_unread(self, count, *words, kind=BLOCK):
@@ -261,11 +237,11 @@ class Hostile(ProcessLooks):
                 longest = max(longest, time.monotonic() - began)
                 time.sleep(0.02)
             most = node.memory("VmHWM")
-            print(f"{self.name}: {nonce} pings beside {count} that ask, the longest took {longest:.2f} s; memory {most / 1e6:.0f} MB at the most")
-            self.look(f"whether {longest:.2f} s aren't more than {AT_ONCE}", longest <= AT_ONCE, True)
-            self.look(f"whether {most:,} bytes aren't more than {MEMORY:,}", most <= MEMORY, True)
+            self.tell(f"{nonce} pings beside {count} that ask, the longest took {longest:.2f} s; memory {most / 1e6:.0f} MB at the most")
+            self.most("the longest", longest, AT_ONCE, ".2f")
+            self.most("bytes of memory", most, MEMORY, ",")
 
-    def slow_but_all(self):
+    def look_slow_but_all(self):
         """A peer that asks 500 times for a block reads slowly, and gets all."""
         with self.pair() as (node, other, port), small(port, 65_536) as peer:
             peer.send(HELLO, self.large_block(node, other, ALL, FULL))
@@ -273,7 +249,7 @@ class Hostile(ProcessLooks):
             self.block_in_time(node, other)
             self.look("its end", self.end(node, 1), None)
 
-    def half_closed(self):
+    def look_half_closed(self):
         """A peer that asks 500 times for a block closes its side behind the message, and gets all."""
         with self.pair() as (node, other, port), small(port, 65_536) as peer:
             peer.send(HELLO, self.large_block(node, other, ALL, FULL))
@@ -284,13 +260,13 @@ class Hostile(ProcessLooks):
 
     # ---- loud ones
 
-    def huge_messages(self):
+    def look_huge_messages(self):
         """Messages of 4,000,000 bytes of an unknown command, for some seconds, from four peers."""
         message = envelope(b"filler", hashlib.sha256(b"filler").digest() * (HUGE // 32))
         with self.pair() as (node, other, port), ExitStack() as stack:
             before = node.memory()
             peers = [stack.enter_context(dialled(port)) for _ in range(4)]
-            end = time.monotonic() + (FLOOD if not self.whole else 10 * FLOOD)
+            end = time.monotonic() + (FLOOD if not self.options.whole else 10 * FLOOD)
             sent, threads = [0] * len(peers), []
             for place, peer in enumerate(peers):
                 peer.send(HELLO)
@@ -303,11 +279,11 @@ class Hostile(ProcessLooks):
                 thread.join(PATIENCE)
             for peer in peers:
                 peer.send(PING)
-                self.look("the answer", PONG in received(peer, PONG), True)
-            self.look(f"whether the memory grew by {GROWTH:,} bytes at the most", node.memory("VmHWM") - before <= GROWTH, True)
-            print(f"{self.name}: {sum(sent) * len(message) / 1e6:,.0f} MB came")
+                self.look("the answer", peer.expect("pong", ANY), 7)
+            self.most("bytes of memory more", node.memory("VmHWM") - before, GROWTH, ",")
+            self.tell(f"{sum(sent) * len(message) / 1e6:,.0f} MB came")
 
-    def unreadable_messages(self):
+    def look_unreadable_messages(self):
         """Messages of 4,000,000 bytes that can't be read, or are longer than any may be."""
         with self.pair() as (node, other, port):
             for slot, (command, size, end) in enumerate([(b"inv", HUGE, "BadMessage"), (b"headers", HUGE, "BadMessage"),
@@ -322,41 +298,43 @@ class Hostile(ProcessLooks):
 
     # ---- connections that open and close
 
-    def open_and_close(self):
-        """Connections that open and close at once. Those for which no slot is free are turned away."""
-        count = 10_000 if self.whole else 1_000
+    def look_open_and_close(self):
+        """Connections that open and close at once: threads and descriptors are given back. Those for which no slot is free are turned
+        away."""
+        count = 10_000 if self.options.whole else 1_000
         with self.pair() as (node, other, port):
-            threads, descriptors, before, spent, began = node.threads(), node.descriptors(), node.memory(), node.processor_ms(), time.monotonic()
+            threads, descriptors, before, spent, began = node.threads(), len(node.descriptors()), node.memory(), node.processor_ms(), time.monotonic()
             for _ in range(count):
-                socket.create_connection(("127.0.0.1", port), PATIENCE).close()
+                connected(port, PATIENCE).close()
             self.comes("their end", node, lambda: len(node.peers()) == 1)
             took, spent = time.monotonic() - began, node.processor_ms() - spent
-            served = int(node.say("stats").split()[6]) - 1
+            served = node.served()[0] - 1
             self.comes("their threads' end", node, lambda: node.threads() <= threads)
-            self.comes("their descriptors' end", node, lambda: node.descriptors() <= descriptors)
-            print(f"{self.name}: {count} connections in {took:.1f} s, of which {served} were served; {spent / count:.2f} ms of the processor and "
-                  f"{(node.memory() - before) / count:,.0f} bytes of memory each")
+            self.comes("their descriptors' end", node, lambda: len(node.descriptors()) <= descriptors)
+            self.tell(f"{count} connections in {took:.1f} s, of which {served} were served; {spent / count:.2f} ms of the processor and "
+                      f"{(node.memory() - before) / count:,.0f} bytes of memory each")
             self.block_in_time(node, other)
 
-    def all_slots_used_up(self):
-        """Connections until no slot is left, and a node that begins anew."""
-        with NodeProcess(self.program, seconds=PATIENCE) as node:
-            port, began, spent = node.port(), time.monotonic(), node.processor_ms()
-            while not node.found("a peer was turned away: all slots are used up, which restart mends") and time.monotonic() < began + USED_UP:
-                for _ in range(100):
-                    socket.create_connection(("127.0.0.1", port), PATIENCE).close()
-            self.logs(node, "a peer was turned away: all slots are used up, which restart mends")
-            self.look("connections", node.say("stats").split()[6], str(INBOUND * CONNECTIONS))
-            print(f"{self.name}: {time.monotonic() - began:.0f} s, {node.processor_ms() - spent:.0f} ms of the processor, "
+    def look_all_slots_used_up(self):
+        """With --whole, connections until no slot is left, which `restart` mends."""
+        if not self.options.whole:
+            return
+        node = self.node(seconds=PATIENCE)
+        port, began, spent = node.port, time.monotonic(), node.processor_ms()
+        while not node.found("a peer was turned away: all slots are used up, which restart mends") and time.monotonic() < began + USED_UP:
+            for _ in range(100):
+                connected(port, PATIENCE).close()
+        self.logs(node, "a peer was turned away: all slots are used up, which restart mends")
+        self.look("connections", node.served()[0], INBOUND * CONNECTIONS)
+        self.tell(f"{time.monotonic() - began:.0f} s, {node.processor_ms() - spent:.0f} ms of the processor, "
                   f"memory {node.memory() / 1e6:.0f} MB")
-            began = time.monotonic()
-            self.says_yes("restart", node.say("restart"))
-            self.begins("restart, further on", "restarted tip", node.line())
-            print(f"{self.name}: restart took {time.monotonic() - began:.1f} s, memory {node.memory() / 1e6:.0f} MB behind it")
-            with dialled(port) as peer:
-                peer.send(HELLO, PING)
-                self.look("the answer", PONG in received(peer, PONG), True)
-            self.ends(node)
+        began = time.monotonic()
+        self.restarts(node)
+        self.tell(f"restart took {time.monotonic() - began:.1f} s, memory {node.memory() / 1e6:.0f} MB behind it")
+        with dialled(port) as peer:
+            peer.send(HELLO, PING)
+            self.look("the answer", peer.expect("pong", ANY), 7)
+        self.ends(node)
 
 
 def listening(host):
@@ -390,13 +368,6 @@ def reading_bytes(port, pause):
         yield peer
 
 
-def received(peer, last):
-    """What comes to a peer, up to this message."""
-    while last not in peer.held:
-        peer.more()
-    return peer.held
-
-
 def read_all(peer, count, pause=0):
     """Whether so many bytes come to a peer that pauses behind each piece."""
     while count > 0:
@@ -426,20 +397,5 @@ def flood(peer, message, end, sent, place):
         sent[place] += 1
 
 
-def main():
-    words = usage(__doc__, program="the program")
-    words.add_argument("--whole", action="store_true", help="at whole length")
-    words.add_argument("--only", help="the name of the look to make alone")
-    given = words.parse_args()
-    looks = Hostile(built(given.program, "cbrelay"), given.whole)
-    for look in (looks.sixty_four_at_once, looks.a_byte_a_second, looks.slow_readers, looks.more_than_an_outbox_holds,
-                 looks.more_than_an_outbox_holds_unread, looks.headers_again_and_again,
-                 looks.many_answers, looks.many_answers_at_eight, looks.many_short_answers, looks.slow_but_all, looks.half_closed, looks.huge_messages,
-                 looks.unreadable_messages, looks.open_and_close, *[looks.all_slots_used_up] * given.whole):
-        if given.only in (None, look.__name__):
-            looks.make(look)
-    return looks.told()
-
-
 if __name__ == "__main__":
-    sys.exit(main())
+    sys.exit(Hostile.main(__doc__, [("whole", "at whole length")]))

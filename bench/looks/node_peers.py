@@ -1,16 +1,9 @@
 #!/usr/bin/env python3
 """Runs nodes over loopback with peers that are no nodes, and with slots that are used again and again: python3 bench/looks/node_peers.py
-[PROGRAM] [--all]
+[PROGRAM] [--all] [--only LOOK]
 
-It needs the built program (crates/cbrelay/out/cbrelay, as ./build leaves it), python3 and Linux, and takes a minute.
-
-- A node's 32 slots are used up, and one is freed by a kick and used again. With --all each slot is used until it has had 256 connections, and
-  then there is none: that takes a minute more.
-- A peer asks for many blocks and reads nothing. The others go on meanwhile; its connection ends with WriteFault once too much waits for it, or its socket took nothing for 30 seconds.
-- Peers end in the middle of a message, once with the end of the stream and once by a reset, and others send bytes that are no message, a
-  payload that can't be read, or nothing at all. The nodes go on.
-
-The status is 0 where all came out so.
+It needs the program, python3 and Linux, and takes a minute. --help tells the
+looks. The status is 0 where all came out so.
 """
 
 import re
@@ -20,26 +13,22 @@ import sys
 import time
 from pathlib import Path
 
-if not __package__:  # called as a file
-    sys.path.insert(0, str(Path(__file__).resolve().parents[2]))
+sys.path.insert(0, str(Path(__file__).resolve().parents[2]))
 
 from bench.models import plain_wire as wire
 from bench.models.plain_block import sized
-from bench.models.plain_session import Settings
-from bench.tools.command_line import usage
+from bench.tools.basics import GENESIS, envelope
 from bench.tools.looks import Looks
-from bench.tools.messages import envelope
-from bench.tools.network import GENESIS
-from bench.tools.node_scripts import GIVEN, OUTBOUND, mined
-from bench.tools.node_talk import MOVED, NodeTalk, peer
-from bench.tools.programs import built
+from bench.tools.made_blocks import mined
+from bench.tools.node_scripts import OUTBOUND
+from bench.tools.plain_peer import HELLO
+from bench.tools.process_talk import MOVED, NodeTalk, connected
 
 SLOTS, CONNECTIONS = 32, 256
 # How often a link is tried, and after how many rounds of kicks without a link no slot is left.
 TRIES, IDLE_ROUNDS = 100, 3
 LARGE, ASKED = 900_000, 60
-HELLO = wire.version(Settings(nonce=0x5EED)) + envelope(b"verack", b"")
-PING = envelope(b"ping", bytes(8))
+PING = wire.ping(0)
 PONG = PING[:4] + b"pong"
 UNREADABLE = envelope(b"ping", bytes(7))
 # How long a write may wait, and how long we wait for its end.
@@ -65,8 +54,8 @@ class Peers(Looks):
 
     # ---- connection after connection
 
-    def one_slot_again(self):
-        """All slots are used; one of them is freed and used again."""
+    def look_one_slot_again(self):
+        """A node's 32 slots are used up, and one is freed by a kick and used again."""
         with NodeTalk(self.program, 2, 2, "--stats") as nodes:
             for _ in range(SLOTS):
                 self.look("a link", nodes.say("link 0 1"), None)
@@ -84,8 +73,11 @@ class Peers(Looks):
             kicked = [row[7] for row in rows if row[:6] == ["node", "0", "slot", str(OUTBOUND + 5), "connection", "1"]]
             self.look("the kicked connection's end", kicked, ["Kicked"])
 
-    def every_connection(self):
-        """Each slot of node 0 is used 256 times. A link for which node 1 has no slot at that moment uses one of node 0 as well."""
+    def look_every_connection(self):
+        """With --all, which takes a minute: each slot of node 0 is used 256 times, and then there is none. A link for which node 1 has no
+        slot at that moment uses one of node 0 as well."""
+        if not self.options.all:
+            return
         with NodeTalk(self.program, 2, 4, "--stats", seconds=PATIENCE) as nodes:
             made, idle = 0, 0
             while idle < IDLE_ROUNDS:
@@ -102,16 +94,23 @@ class Peers(Looks):
             rows = self.ends("every connection", nodes, 1, 3)
             latest = {int(row[3]): int(row[5]) for row in rows if row[1] == "0" and int(row[3]) >= OUTBOUND}
             self.look("generations", set(latest.values()), {CONNECTIONS})
-            print(f"node_peers: {made} connections by {SLOTS} slots")
+            self.tell(f"{made} connections by {SLOTS} slots")
 
     # ---- peers that are no nodes
+
+    def look_odd_peers(self):
+        """Peers end in the middle of a message, once with the end of the stream and once by a reset, and others send bytes that are no
+        message, a payload that can't be read, many pings, or nothing at all. The nodes go on."""
+        for act, end in ((self.silent, None), (self.cut, "Bye"), (self.reset, "Bye"), (self.noise, "BadStream"), (self.unreadable, "BadMessage"),
+                         (self.many_pings, "Bye")):
+            self.with_peer(act.__name__, act, end)
 
     def with_peer(self, name, act, end):
         """Nodes 0 and 1 are linked, and a peer is served by node 1's slot 1. What it does ends the connection so."""
         with NodeTalk(self.program, 2, 2, "--stats") as nodes:
             self.look(f"{name}: a link", nodes.say("link 0 1"), None)
             [port] = nodes.ports()
-            with peer(port) as stream:
+            with connected(port) as stream:
                 # The peer waits to be accepted, so it is taken for node 0, whose own connection waits behind it.
                 self.look(f"{name}: a link", nodes.say("link 0 1"), None)
                 act(nodes, stream)
@@ -155,21 +154,22 @@ class Peers(Looks):
 
     def asked_of(self, nodes):
         """Node 1 is given a large block. A message that asks for it many times comes back."""
-        block = mined(GENESIS, 1, GIVEN)
+        block = mined(GENESIS, 1)
         large = sized(block.header.name, LARGE)
         for one in (block, large):
             self.look("a given block", nodes.say(f"block 1 {one.text.hex()}"), None)
         return wire.entries(b"getdata", [(2, large.header.name)] * ASKED)
 
-    def never_reads(self):
-        """A peer asks for many large blocks and reads nothing. The others go on; its connection ends by itself."""
+    def look_never_reads(self):
+        """A peer asks for many large blocks and reads nothing. The others go on; its connection ends by itself once its socket took
+        nothing for long."""
         with NodeTalk(self.program, 3, 2, "--stats", seconds=PATIENCE) as nodes:
             self.look("a link", nodes.say("link 0 1"), None)
             self.look("a link", nodes.say("link 2 1"), None)
             much = self.asked_of(nodes)
             self.look("a wait", nodes.say("wait"), None)
             [port] = nodes.ports()
-            with peer(port) as stream:
+            with connected(port) as stream:
                 self.look("a link", nodes.say("link 0 1"), None)
                 stream.sendall(HELLO + much)
                 began = time.monotonic()
@@ -218,20 +218,5 @@ def end_by_reset(stream):
     stream.close()
 
 
-def main():
-    parser = usage(__doc__, program="the program")
-    parser.add_argument("--all", action="store_true", help="use up all connections of all slots too")
-    words = parser.parse_args()
-    looks = Peers("node_peers", built(words.program, "cbrelay"))
-    looks.one_slot_again()
-    for act, end in ((looks.silent, None), (looks.cut, "Bye"), (looks.reset, "Bye"), (looks.noise, "BadStream"),
-                     (looks.unreadable, "BadMessage"), (looks.many_pings, "Bye")):
-        looks.with_peer(act.__name__, act, end)
-    looks.never_reads()
-    if words.all:
-        looks.every_connection()
-    return looks.told()
-
-
 if __name__ == "__main__":
-    sys.exit(main())
+    sys.exit(Peers.main(__doc__, [("all", "use up all connections of all slots too")]))

@@ -1,18 +1,9 @@
 #!/usr/bin/env python3
 """Runs processes `cbrelay node` whose standard output or standard error nobody reads, and looks at what they say of words that can't be
-followed: python3 bench/looks/node_pipes.py [PROGRAM] [--only NAME]
+followed: python3 bench/looks/node_pipes.py [PROGRAM] [--only LOOK]
 
-It needs the built program (crates/cbrelay/out/cbrelay, as ./build leaves it), python3 and Linux, and takes some two minutes.
-
-- Standard error is unread: 400 connections, one after another, are served, and `tip` is answered within a second.
-- Standard output is unread, and full: a new peer is served. `quit`, and the end of input, end the node within ten seconds, also where both
-  pipes are unread and full and many lines wait for their answer.
-- Connections by the hundred a second: 20 lines of the log a second at the most are about them, and the counts of the others add up to all.
-- A log that nobody reads and then somebody does: the first line behind dropped ones tells how many these were.
-- An address that is given twice is dialled once, the node's own never.
-- Words that can't be followed are named; a port in use, another machine's address and want of memory are told apart.
-
-The status is 0 where all came out so.
+It needs the program, python3 and Linux, and takes some two minutes. --help tells
+the looks. The status is 0 where all came out so.
 """
 
 import re
@@ -24,13 +15,10 @@ from collections import Counter
 from contextlib import contextmanager
 from pathlib import Path
 
-if not __package__:  # called as a file
-    sys.path.insert(0, str(Path(__file__).resolve().parents[2]))
+sys.path.insert(0, str(Path(__file__).resolve().parents[2]))
 
-from bench.tools.command_line import usage
 from bench.tools.plain_peer import PlainPeer, dialled
 from bench.tools.process_talk import NodeProcess, ProcessLooks, closed_port
-from bench.tools.programs import built
 
 # How many connections come where nobody reads the log.
 CONNECTIONS = 400
@@ -89,45 +77,39 @@ class Pipes(ProcessLooks):
         """The process ends in time, with this status."""
         began = time.monotonic()
         status = process.wait(timeout=60)
-        took = time.monotonic() - began
-        self.look(f"whether {took:.1f} s aren't more than {LATEST}", took <= LATEST, True)
+        self.most("when it ends", time.monotonic() - began, LATEST)
         self.look("the status", status, wanted)
 
     # ---- nobody reads
 
-    def errors_are_unread(self):
-        """400 connections are served though nobody reads the log, and lines are answered in time."""
-        with NodeProcess(self.program, "--log", "trace", reads_errors=False) as node:
-            port = node.port()
-            for count in range(CONNECTIONS):
-                with dialled(port, 20) as peer:
-                    peer.shake_hands()
-                if count % 100 == 0:
-                    began = time.monotonic()
-                    node.tip()
-                    self.look("whether tip is answered in time", time.monotonic() - began <= SOON, True)
-            began = time.monotonic()
-            node.tip()
-            self.look("whether the last tip is answered in time", time.monotonic() - began <= SOON, True)
-            self.look("its connections", int(node.say("stats").split()[6]) >= CONNECTIONS, True)
-            node.process.stdin.close()
-            self.ends_soon(node.process, 0)
+    def look_errors_are_unread(self):
+        """400 connections, one after another, are served though nobody reads the log, and `tip` is answered within a second."""
+        node = self.node("--log", "trace", reads_errors=False)
+        port = node.port
+        for count in range(CONNECTIONS):
+            with dialled(port, 20) as peer:
+                peer.shake_hands()
+            if count % 100 == 0:
+                self.answers_in_time(node)
+        self.answers_in_time(node)
+        self.look("its connections", node.served()[0] >= CONNECTIONS, True)
+        node.process.stdin.close()
+        self.ends_soon(node.process, 0)
 
-    def output_is_unread(self):
-        """With a full standard output a new peer is served; `quit` and the end of input end the node."""
-        for last in (b"quit\n", b""):
-            with self.unread(errors=False) as (process, port):
-                process.stdin.write((LONG + "\n").encode() * FULL)
-                process.stdin.flush()
-                time.sleep(1)
-                self.look("whether a peer is served", self.is_served(port), True)
-                self.finish(process, last)
+    def answers_in_time(self, node):
+        began = time.monotonic()
+        node.tip()
+        self.most("when tip is answered", time.monotonic() - began, SOON)
 
-    def both_are_unread(self):
-        """The same with a log that nobody reads either."""
+    def look_output_is_unread(self):
+        """With a full standard output a new peer is served; `quit` and the end of input end the node within ten seconds."""
+        self.fills_its_output(0, errors=False)
+
+    def fills_its_output(self, connections, *words, **given):
+        """A node with so many connections answers many lines, which nobody reads, and is ended in two ways."""
         for last in (b"quit\n", b""):
-            with self.unread("--log", "trace") as (process, port):
-                for _ in range(CONNECTIONS):
+            with self.unread(*words, **given) as (process, port):
+                for _ in range(connections):
                     with dialled(port, 20):
                         pass
                 process.stdin.write((LONG + "\n").encode() * FULL)
@@ -135,6 +117,10 @@ class Pipes(ProcessLooks):
                 time.sleep(1)
                 self.look("whether a peer is served", self.is_served(port), True)
                 self.finish(process, last)
+
+    def look_both_are_unread(self):
+        """The same with a log that nobody reads either, and many lines that wait for their answer."""
+        self.fills_its_output(CONNECTIONS, "--log", "trace")
 
     def finish(self, process, last):
         """Says the last line, or ends the input. The node ends in time, since its output takes nothing."""
@@ -145,7 +131,7 @@ class Pipes(ProcessLooks):
             process.stdin.close()
         self.ends_soon(process, 3)
 
-    def nothing_waits_to_be_read(self):
+    def look_nothing_waits_to_be_read(self):
         """An output that holds all that was printed is as good as one that is read."""
         with self.unread() as (process, _):
             process.stdin.write(b"tip\nquit\n")
@@ -156,73 +142,72 @@ class Pipes(ProcessLooks):
 
     # ---- the log
 
-    def a_flood_is_counted(self):
-        """Lines about connections are few, and those that aren't told are counted."""
-        with NodeProcess(self.program) as node:
-            port, end = node.port(), time.monotonic() + FLOOD
-            while time.monotonic() < end:
-                for _ in range(50):
-                    with dialled(port, 20):
-                        pass
-                time.sleep(0.05)
-            self.comes("their end", node, lambda: node.peers() == [])
-            served = int(node.say("stats").split()[6])
-            self.ends(node)
-            told = [line for line in node.logged if line and CLOSED.search(line)]
-            counts = [int(OTHERS.search(line)[1]) for line in node.logged if line and OTHERS.search(line)]
-            away = len(node.found("turned away"))
-            print(f"{self.name}: {served} served, {len(told)} lines told, {sum(counts)} counted")
-            self.look("whether some were counted", sum(counts) > 0, True)
-            self.look("whether all lines of those served are told or counted", len(told) + sum(counts) >= 2 * served + away, True)
-            seconds = Counter(line[:20] for line in node.logged if line and (CLOSED.search(line) or OTHERS.search(line)))
-            self.look("the most lines a second", max(seconds.values()) <= 2 * MOST, True)
-            spans = sorted(seconds)
-            self.look("lines a second on the whole", sum(seconds.values()) <= MOST * (len(spans) + 1), True)
+    def look_a_flood_is_counted(self):
+        """Connections by the hundred a second: 20 lines of the log a second at the most are about them. The counts of the others add up to
+        all."""
+        node = self.node()
+        port, end = node.port, time.monotonic() + FLOOD
+        while time.monotonic() < end:
+            for _ in range(50):
+                with dialled(port, 20):
+                    pass
+            time.sleep(0.05)
+        self.comes("their end", node, lambda: node.peers() == [])
+        served = node.served()[0]
+        self.ends(node)
+        told = [line for line in node.logged if line and CLOSED.search(line)]
+        counts = [int(OTHERS.search(line)[1]) for line in node.logged if line and OTHERS.search(line)]
+        away = len(node.found("turned away"))
+        self.tell(f"{served} served, {len(told)} lines told, {sum(counts)} counted")
+        self.look("whether some were counted", sum(counts) > 0, True)
+        self.look("whether all lines of those served are told or counted", len(told) + sum(counts) >= 2 * served + away, True)
+        seconds = Counter(line[:20] for line in node.logged if line and (CLOSED.search(line) or OTHERS.search(line)))
+        self.look("the most lines a second", max(seconds.values()) <= 2 * MOST, True)
+        spans = sorted(seconds)
+        self.look("lines a second on the whole", sum(seconds.values()) <= MOST * (len(spans) + 1), True)
 
-    def dropped_lines_are_counted(self):
+    def look_dropped_lines_are_counted(self):
         """A log that is read late: a line tells how many were dropped before it."""
-        with NodeProcess(self.program, "--log", "debug", reads_errors=False) as node:
-            node.port()
-            mined = 3_000
-            for _ in range(mined):
-                node.say("mine")
-            node.read_errors()
-            # while the log's thread hasn't read on, the next lines are dropped too
-            while not node.found(DROPPED) and mined < 3_100:
-                node.say("mine")
-                mined += 1
-                time.sleep(0.1)
-            self.logs(node, rf"\[WARN  cbrelay\] [1-9]\d* {DROPPED}$")
+        node = self.node("--log", "debug", reads_errors=False)
+        mined = 3_000
+        for _ in range(mined):
+            node.say("mine")
+        node.read_errors()
+        # while the log's thread hasn't read on, the next lines are dropped too
+        while not node.found(DROPPED) and mined < 3_100:
             node.say("mine")
             mined += 1
-            self.logs(node, f" tip {mined} ")
-            tips = len(node.found(r"\] tip \d+ "))
-            lost = sum(int(line.split()[3]) for line in node.found(DROPPED))
-            self.look("tips that were told and lines that were dropped", tips + lost, mined)
-            self.ends(node)
+            time.sleep(0.1)
+        self.logs(node, rf"\[WARN  cbrelay\] [1-9]\d* {DROPPED}$")
+        node.say("mine")
+        mined += 1
+        self.logs(node, f" tip {mined} ")
+        tips = len(node.found(r"\] tip \d+ "))
+        lost = sum(int(line.split()[3]) for line in node.found(DROPPED))
+        self.look("tips that were told and lines that were dropped", tips + lost, mined)
+        self.ends(node)
 
     # ---- words
 
-    def words_are_named(self):
-        """What standard error says of words that can't be followed."""
+    def look_words_are_named(self):
+        """Words that can't be followed are named; a port in use and another machine's address are told apart."""
         rows = {("--listen", "localhost:1"): r"--listen .* numbers alone", ("--connect", "localhost:1"): r"--connect .* numbers alone",
                 ("--log", "loud"): r"--log takes off, error", ("--listen", FOREIGN): r"192\.0\.2\.1:18444: the address isn't this machine's"}
-        with NodeProcess(self.program) as node:
-            rows["--listen", node.address()] = "the port is in use"
-            for words, wanted in rows.items():
-                given = {"stdin": subprocess.DEVNULL, "capture_output": True, "text": True, "timeout": 60, "check": False}
-                run = subprocess.run([self.program, "node", *words], **given)
-                self.look(f"{words}: status and output", (run.returncode, run.stdout), (3, ""))
-                self.look(f"{words}: the error", bool(re.search(wanted, run.stderr)), True)
-            self.ends(node)
+        node = self.node()
+        rows["--listen", node.at] = "the port is in use"
+        for words, wanted in rows.items():
+            status, printed, errors = self.ran("node", *words)
+            self.look(f"{words}: status and output", (status, printed), (3, ""))
+            self.look(f"{words}: the error", bool(re.search(wanted, errors)), True)
+        self.ends(node)
 
-    def want_of_memory_is_told(self):
+    def look_want_of_memory_is_told(self):
         """Memory that runs out at the start is no fault of the address."""
         command = ["prlimit", f"--as={SCARCE}", self.program, "node", "--listen", "127.0.0.1:0"]
         run = subprocess.run(command, stdin=subprocess.DEVNULL, capture_output=True, text=True, timeout=60, check=False)
         self.look("the end", (run.returncode, run.stdout, run.stderr), (4, "", "memory ran out\n"))
 
-    def addresses_are_dialled_once(self):
+    def look_addresses_are_dialled_once(self):
         """A peer that is given twice is dialled once; the node's own address is not dialled."""
         own, other = closed_port(), socket.create_server(("127.0.0.1", 0))
         with other:
@@ -230,7 +215,6 @@ class Pipes(ProcessLooks):
             address = f"127.0.0.1:{other.getsockname()[1]}"
             words = [word for given in (address, address, f"127.0.0.1:{own}") for word in ("--connect", given)]
             with NodeProcess(self.program, *words, listen=f"127.0.0.1:{own}") as node:
-                node.address()
                 self.logs(node, f"127.0.0.1:{own} is this node's own address")
                 with PlainPeer(other.accept()[0]):
                     try:
@@ -244,18 +228,5 @@ class Pipes(ProcessLooks):
                 self.ends(node)
 
 
-def main():
-    words = usage(__doc__, program="the program")
-    words.add_argument("--only", help="the name of the look to make alone")
-    given = words.parse_args()
-    looks = Pipes("node_pipes", built(given.program, "cbrelay"))
-    for look in (looks.errors_are_unread, looks.output_is_unread, looks.both_are_unread, looks.nothing_waits_to_be_read,
-                 looks.a_flood_is_counted, looks.dropped_lines_are_counted, looks.words_are_named, looks.want_of_memory_is_told,
-                 looks.addresses_are_dialled_once):
-        if given.only in (None, look.__name__):
-            looks.make(look)
-    return looks.told()
-
-
 if __name__ == "__main__":
-    sys.exit(main())
+    sys.exit(Pipes.main(__doc__))

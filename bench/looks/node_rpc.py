@@ -1,45 +1,29 @@
 #!/usr/bin/python3
-"""Drives processes `cbrelay node` by JSON-RPC: /usr/bin/python3 bench/looks/node_rpc.py [PROGRAM] [--only NAME]
+"""Drives processes `cbrelay node` by JSON-RPC: /usr/bin/python3 bench/looks/node_rpc.py [PROGRAM] [--only LOOK]
 
-It needs the built program (crates/cbrelay/out/cbrelay, as ./build leaves it), Linux, curl, and Debian's package python3-bitcoinlib, which
+It needs the program, Linux, curl, and Debian's package python3-bitcoinlib, which
 that python3 finds. The client is the library's `bitcoin.rpc.Proxy`, and the peers are the library's too: it knows nothing of this project.
-It takes some ten seconds.
-
-- 300 blocks that the node generates: each is read back in three forms, and its header in two, beside what a peer gets for it.
-- Transactions from a client to a peer, and from a peer to a client; what the mempool would take; outputs of the chain and of the mempool.
-- A branch that a peer tells becomes the best chain; what was the best one is told as a branch. A header comes before its block.
-- Blocks that are submitted, and why they are refused.
-- Each number of an error, what a request lacks, and batches.
-- Peers: what is told of them, links that are made and undone, the network that is switched off and on. 100 clients at once, while a peer
-  hands blocks over and pings.
-- `stop` ends a node that reads no input, and one that waits for a line, each with its audit.
-- The commands of docs/RPC.md print what stands below them.
-
-The status is 0 where all came out so.
+It takes some ten seconds. --help tells the looks. The status is 0 where all came out so.
 """
 
-import http.client
-import json
 import socket
 import subprocess
 import sys
 import time
-from base64 import b64encode
 from concurrent.futures import ThreadPoolExecutor
 from contextlib import contextmanager
 from decimal import Decimal
 from pathlib import Path
 
-if not __package__:  # called as a file
-    sys.path.insert(0, str(Path(__file__).resolve().parents[2]))
+sys.path.insert(0, str(Path(__file__).resolve().parents[2]))
 
-from bitcoin.core import CBlock, CBlockHeader, CTransaction, b2lx, b2x, lx, x
+from bitcoin.core import CBlock, CBlockHeader, b2lx, b2x, lx, x
 from bitcoin.rpc import JSONRPCError, Proxy
 
-from bench.tools.command_line import usage
-from bench.tools.library_peer import BITS, BLOCK, REGTEST_GENESIS, TARGET, TIME, TX, dialled, grown, mined, spending
+from bench.tools.library_peer import BITS, BLOCK, REGTEST_GENESIS, TARGET, TX, dialled, grown, spending
 from bench.tools.process_talk import NodeProcess, ProcessLooks, closed_port
-from bench.tools.programs import ROOT, built
+from bench.tools.programs import ROOT
+from bench.tools.rpc_client import RpcClient
 
 SECONDS, GENERATED, KEY = 60, 300, "me:secret"
 GENESIS = b2lx(REGTEST_GENESIS)
@@ -58,6 +42,15 @@ REFUSED = [
     ("disconnectnode", ["127.0.0.1:1"], -29), ("disconnectnode", ["", 77], -29), ("setnetworkactive", ["on"], -3), ("setnetworkactive", [], -1),
     ("logging", ["loud"], -8), ("uptime", [1], -1), ("ping", [1], -1), ("stop", [1, 2], -1),
 ]
+# Requests that are none, with the status of each and the number of its error.
+UNREADABLE = {
+    "no JSON": ("{", 500, -32700), "no object": ("7", 500, -32700), "no method": ({"id": 1}, 400, -32600),
+    "a method that is a number": ({"method": 7}, 400, -32600),
+    "parameters that are a text": ({"method": "uptime", "params": "x"}, 400, -32600),
+    "an unknown name of a parameter": ({"method": "getblockhash", "params": {"hight": 0}}, 500, -8),
+    "an unknown method": ({"method": "nosuch"}, 404, -32601),
+    "nested too deep": ('{"method":"uptime","params":' + "[" * 100_000 + "]" * 100_000 + "}", 500, -32700),
+}
 
 
 class Refused(ValueError):
@@ -93,14 +86,9 @@ class Client:
 
     def ask(self, request):
         """The status and the value that answer the text of a request, or a value that is written as JSON."""
-        text = request if isinstance(request, str) else json.dumps(request)
-        with_key = f"Basic {b64encode(self.key.encode()).decode()}"
-        connection = http.client.HTTPConnection("127.0.0.1", self.port, timeout=SECONDS)
-        connection.request("POST", "/", text, {"Content-Type": "application/json", "Authorization": with_key})
-        answer = connection.getresponse()
-        body = answer.read()
-        connection.close()
-        return answer.status, json.loads(body) if body else None
+        with RpcClient(self.port, self.key) as client:
+            answer = client.post(request)
+            return answer.status, answer.json() if answer.body else None
 
 
 def headed(block, root, worked):
@@ -137,21 +125,18 @@ class Rpc(ProcessLooks):
         port = closed_port()
         user, _, password = key.partition(":")
         with NodeProcess(self.program, "--rpc", f"127.0.0.1:{port}", "--rpc-user", user, "--rpc-password", password, *words) as node:
-            node.peers_port = node.port()
+            node.peers_port = node.port
             yield node, Client(port, key)
 
     def stopped(self, node, client):
         """The node ends by `stop`, and its audit says yes."""
         self.look("stop", client.call("stop"), "cbrelay stopping")
-        status = node.process.wait(timeout=SECONDS)
-        told = list(iter(node.line, None))
-        self.look("a process's end", (status, len(told)), (0, 1))
-        self.says_yes("its audit", told[-1] if told else None)
+        self.ended_so(node.rest())
 
     # ---- blocks
 
-    def blocks_read_back(self):
-        """Each generated block in three forms, beside what a peer gets."""
+    def look_blocks_read_back(self):
+        """300 blocks that the node generates: each is read back in three forms, and its header in two, beside what a peer gets for it."""
         with self.node("--no-input") as (node, client), dialled(node.peers_port, SECONDS) as peer:
             peer.shake_hands()
             names = client.call("generate", GENERATED)
@@ -194,8 +179,8 @@ class Rpc(ProcessLooks):
                    "initialblockdownload": False})
         self.look("the tips", client.call("getchaintips"), [{"height": GENERATED, "hash": names[-1], "branchlen": 0, "status": "active"}])
 
-    def branches(self):
-        """A peer's branch becomes the best chain."""
+    def look_branches(self):
+        """A branch that a peer tells becomes the best chain; what was the best one is told as a branch."""
         with self.node("--no-input") as (node, client), dialled(node.peers_port, SECONDS) as peer:
             old = client.call("generate", 2)
             peer.shake_hands()
@@ -217,8 +202,8 @@ class Rpc(ProcessLooks):
             self.look("the hash at 1", client.call("getblockhash", 1), new[0])
             self.stopped(node, client)
 
-    def submitted(self):
-        """Blocks and headers that a client hands in."""
+    def look_submitted(self):
+        """Blocks and headers that a client hands in, and why they are refused. A header comes before its block."""
         with self.node("--no-input") as (node, client):
             first, second = grown(REGTEST_GENESIS, 0, 2, b"handed")
             give = lambda block: client.call("submitblock", b2x(block.serialize()))  # noqa: E731
@@ -237,8 +222,8 @@ class Rpc(ProcessLooks):
 
     # ---- transactions
 
-    def transactions(self):
-        """From a client to a peer, and from a peer to a client."""
+    def look_transactions(self):
+        """From a client to a peer, and from a peer to a client; what the mempool would take; outputs of the chain and of the mempool."""
         with self.node("--no-input") as (node, client), dialled(node.peers_port, SECONDS) as peer:
             peer.shake_hands()
             funds = CBlock.deserialize(x(client.call("getblock", client.call("generate", 1)[0], 0))).vtx[0]
@@ -301,19 +286,13 @@ class Rpc(ProcessLooks):
 
     # ---- requests
 
-    def errors(self):
-        """Each number of an error."""
+    def look_errors(self):
+        """Each number of an error, what a request lacks, and batches."""
         with self.node("--no-input") as (node, client):
             for name, params, code in REFUSED:
                 self.look(f"{name} {params}", client.refused(name, *params), code)
-            self.look("no JSON", self.shape(client.ask("{")), (500, -32700))
-            self.look("no object", self.shape(client.ask("7")), (500, -32700))
-            self.look("no method", self.shape(client.ask({"id": 1})), (400, -32600))
-            self.look("a method that is a number", self.shape(client.ask({"method": 7})), (400, -32600))
-            self.look("parameters that are a text", self.shape(client.ask({"method": "uptime", "params": "x"})), (400, -32600))
-            self.look("an unknown name of a parameter", self.shape(client.ask({"method": "getblockhash", "params": {"hight": 0}})), (500, -8))
-            self.look("an unknown method", self.shape(client.ask({"method": "nosuch"})), (404, -32601))
-            self.look("nested too deep", self.shape(client.ask('{"method":"uptime","params":' + "[" * 100_000 + "]" * 100_000 + "}")), (500, -32700))
+            for what, (request, *wanted) in UNREADABLE.items():
+                self.look(what, self.shape(client.ask(request)), tuple(wanted))
             self.batches(client)
             self.stopped(node, client)
 
@@ -339,8 +318,8 @@ class Rpc(ProcessLooks):
 
     # ---- peers
 
-    def links(self):
-        """What is told of peers, and links that are made and undone."""
+    def look_links(self):
+        """What is told of peers, links that are made and undone, the network that is switched off and on."""
         with self.node("--no-input") as (node, client), self.node("--no-input") as (other, second):
             address = f"127.0.0.1:{other.peers_port}"
             count = lambda: client.call("getconnectioncount")  # noqa: E731
@@ -376,23 +355,17 @@ class Rpc(ProcessLooks):
             self.stopped(node, client)
             self.stopped(other, second)
 
-    def crowds(self):
+    def look_crowds(self):
         """100 clients at once, while a peer hands blocks over and pings."""
         blocks = grown(REGTEST_GENESIS, 0, 32, b"crowd")
-        by_name = {block.GetHash(): block for block in blocks}
         with self.node("--no-input") as (node, client), dialled(node.peers_port, SECONDS) as peer, ThreadPoolExecutor(100) as crowd:
             peer.shake_hands()
             began = time.monotonic()
             counts = [crowd.submit(self.counted, client.port) for _ in range(100)]
-            peer.tell_headers(blocks)
-            given = 0
-            while given < len(blocks):
-                for _, name in peer.asked():
-                    peer.give_block(by_name[name])
-                    given += 1
+            peer.hand_over(blocks)
             pings = sorted(self.pinged(peer, nonce) for nonce in range(50))
             self.look("calls that were answered", sum(count.result() for count in counts), 1_000)
-            print(f"{self.name}: 1,000 calls of 100 clients took {time.monotonic() - began:.1f} s; a peer's ping meanwhile {pings[25] * 1_000:.1f} ms, at most {pings[-1] * 1_000:.0f}")
+            self.tell(f"1,000 calls of 100 clients took {time.monotonic() - began:.1f} s; a peer's ping meanwhile {pings[25] * 1_000:.1f} ms, at most {pings[-1] * 1_000:.0f}")
             self.look("the peer's blocks", client.call("getbestblockhash"), b2lx(blocks[-1].GetHash()))
             self.stopped(node, client)
 
@@ -410,8 +383,9 @@ class Rpc(ProcessLooks):
 
     # ---- the program
 
-    def ways_to_end(self):
-        """`stop` ends a node; `quit` ends one that answers requests, too."""
+    def look_ways_to_end(self):
+        """`stop` ends a node that reads no input, and one that waits for a line, each with its audit; `quit` ends one that answers
+        requests, too."""
         with self.node() as (node, client):
             self.look("an operator's line", node.say("mine").split()[:2], ["mined", "1"])
             self.look("the same chain", client.call("getblockcount"), 1)
@@ -427,19 +401,19 @@ class Rpc(ProcessLooks):
             self.look("a password with signs", client.call("getblockcount"), 0)
             self.ends(node)
 
-    def words(self):
+    def look_words(self):
         """Words that are refused, and ports that others have."""
-        for words in (["--rpc", "127.0.0.1:1"], ["--rpc", "127.0.0.1:1", "--rpc-user", "u"], ["--rpc", "0.0.0.0:1", "--rpc-user", "u", "--rpc-password", "p"], ["--no-input"]):
-            ran = subprocess.run([self.program, "node", "--listen", "127.0.0.1:0", *words], stdin=subprocess.DEVNULL, capture_output=True, text=True, timeout=SECONDS, check=False)
-            self.look(f"{words}", (ran.returncode, ran.stdout, ran.stderr.startswith("error: ")), (3, "", True))
+        key = ["--rpc-user", "u", "--rpc-password", "p"]
+        for words in (["--rpc", "127.0.0.1:1"], ["--rpc", "127.0.0.1:1", *key[:2]], ["--rpc", "0.0.0.0:1", *key], ["--no-input"]):
+            status, printed, errors = self.ran("node", "--listen", "127.0.0.1:0", *words)
+            self.look(f"{words}", (status, printed, errors.startswith("error: ")), (3, "", True))
         with socket.create_server(("127.0.0.1", 0)) as taken:
             address = f"127.0.0.1:{taken.getsockname()[1]}"
-            ran = subprocess.run([self.program, "node", "--listen", "127.0.0.1:0", "--rpc", address, "--rpc-user", "u", "--rpc-password", "p"], stdin=subprocess.DEVNULL, capture_output=True,
-                                 text=True, timeout=SECONDS, check=False)
-            self.look("a port that is taken", (ran.returncode, ran.stdout, f"error: can't listen at {address}: " in ran.stderr), (3, "", True))
+            status, printed, errors = self.ran("node", "--listen", "127.0.0.1:0", "--rpc", address, *key)
+            self.look("a port that is taken", (status, printed, f"error: can't listen at {address}: " in errors), (3, "", True))
 
-    def document(self):
-        """The commands of docs/RPC.md, at another port."""
+    def look_document(self):
+        """The commands of docs/RPC.md, at another port, print what stands below them."""
         lines = Path(ROOT, "docs/RPC.md").read_text(encoding="utf-8").splitlines()
         with self.node("--no-input") as (node, client):
             ran = 0
@@ -453,16 +427,5 @@ class Rpc(ProcessLooks):
             self.stopped(node, client)
 
 
-def main():
-    words = usage(__doc__, program="the program")
-    words.add_argument("--only", help="the name of the look to make alone")
-    given = words.parse_args()
-    looks = Rpc("node_rpc", built(given.program, "cbrelay"))
-    for look in (looks.blocks_read_back, looks.branches, looks.submitted, looks.transactions, looks.errors, looks.links, looks.crowds, looks.ways_to_end, looks.words, looks.document):
-        if given.only in (None, look.__name__):
-            looks.make(look)
-    return looks.told()
-
-
 if __name__ == "__main__":
-    sys.exit(main())
+    sys.exit(Rpc.main(__doc__))

@@ -1,20 +1,10 @@
 #!/usr/bin/python3
 """Asks a node by JSON-RPC as clients and strangers may: /usr/bin/python3 bench/looks/node_rpc_http.py [PROGRAM] [--only NAME] [--at PORT]
 
-It needs the built program (crates/cbrelay/out/cbrelay, as ./build leaves it), Linux, curl, and Debian's package python3-bitcoinlib, which
+It needs the program, Linux, curl, and Debian's package python3-bitcoinlib, which
 that python3 finds. It takes some 70 seconds. With --at it looks at what listens at that port already, in place of a program; that must
-know `getblockcount` and `stop`, and the user and password of --words. What methods answer is in node_rpc.py.
-
-- Answers of JSON-RPC 1.x and 2.0, notifications, batches in their order, of 1,000 and of 1,001 requests, and each `id` as it was written.
-- Who lacks the password, a web page, a strange host, another method than POST and another content than JSON are refused. A refused
-  stranger waits for 250 ms and holds up nobody.
-- bitcoinlib's Proxy, and curl: a kept connection, chunks, Expect.
-- Slow heads, slow bodies, still connections, long heads and bodies, deep nesting, requests that are cut, and 1,000 bodies mutated from
-  good ones. Each is answered or closed, and the next client is served.
-- 100 clients at once, on kept connections and on new ones.
-- `stop` is answered, and all connections end.
-
-The status is 0 where all came out so.
+know `getblockcount` and `stop`, and the user and password of --words. What methods answer is in node_rpc.py. Behind each look the next
+client is served. The status is 0 where all came out so.
 """
 
 import http.client
@@ -29,16 +19,14 @@ import time
 from concurrent.futures import ThreadPoolExecutor
 from pathlib import Path
 
-if not __package__:  # called as a file
-    sys.path.insert(0, str(Path(__file__).resolve().parents[2]))
+sys.path.insert(0, str(Path(__file__).resolve().parents[2]))
 
 import bitcoin
 import bitcoin.rpc
 
-from bench.tools.command_line import usage
 from bench.tools.looks import Looks
 from bench.tools.process_talk import NodeProcess, closed_port
-from bench.tools.programs import built
+from bench.tools.programs import built, usage
 from bench.tools.rpc_client import HOST, RpcClient, all_read, basic, closed_after, opened, request
 
 WORDS = "user:secret"
@@ -129,7 +117,7 @@ class Served(Looks):
             self.look("of 2.0: its parts", (answer.json()["error"]["code"], list(answer.json())), (-32601, ["jsonrpc", "error", "id"]))
 
     def batches(self):
-        """Lists of requests."""
+        """Lists of requests in their order, of 1,000 and of 1,001 too."""
         with self.client() as client:
             mixed = [COUNT, {"method": "nope", "id": "b"}, {"jsonrpc": "2.0", "method": "getblockcount"}, 7, [], None,
                      {"jsonrpc": "2.0", "method": "nope", "id": "c"}, {"jsonrpc": "2.0", "method": "getblockcount", "id": [1]}]
@@ -149,7 +137,7 @@ class Served(Looks):
     # ---- who is refused
 
     def strangers(self):
-        """Who lacks the password."""
+        """Who lacks the password waits for 250 ms, and is refused."""
         user, _, password = self.words.partition(":")
         wrong = [f"{user}:{it}" for it in (f"{password}x", password[:-1], "x" * len(password), "")] + [f"{user}x:{password}", ":", ""]
         for words in wrong:
@@ -322,7 +310,7 @@ class Served(Looks):
             self.look("two at once", all_read(stream).count(b"HTTP/1.1 200"), 2)
 
     def mutated_ones(self):
-        """Bodies mutated from good ones: each is answered or closed."""
+        """1,000 bodies mutated from good ones: each is answered or closed."""
         draw = random.Random(SEED)
         good = COUNT, {**COUNT, "jsonrpc": "2.0"}, [COUNT, COUNT], {**COUNT, "params": {"a": [1.5, "x"]}}
         good = [json.dumps(one).encode() for one in good]
@@ -366,7 +354,7 @@ class Served(Looks):
         return right
 
     def many_clients(self):
-        """100 clients at once."""
+        """100 clients at once, on kept connections and on new ones."""
         for kept in (True, False):
             began = time.monotonic()
             with ThreadPoolExecutor(CLIENTS) as pool:
@@ -432,8 +420,7 @@ def main():
     user, _, password = WORDS.partition(":")
     port = closed_port()
     key = ("--rpc", f"{HOST}:{port}", "--rpc-user", user, "--rpc-password", password)
-    with NodeProcess(built(given.program, "cbrelay"), "--no-input", *key) as node:
-        node.port()
+    with NodeProcess(built(given.program, "cbrelay"), "--no-input", *key):
         return look_all(port, WORDS, given.only)
 
 

@@ -1,19 +1,9 @@
 #!/usr/bin/env python3
-"""Ends processes `cbrelay node` by signals, through scripts/run-node: python3 bench/looks/node_signals.py [PROGRAM] [--only NAME]
+"""Ends processes `cbrelay node` by signals, through scripts/run-node: python3 bench/looks/node_signals.py [PROGRAM] [--only LOOK]
 
-It needs the built program (crates/cbrelay/out/cbrelay, as ./build leaves it), python3, Linux, and unshare and nsenter of util-linux, and takes
-some ten seconds. Where it isn't root, the namespaces are those of a user of their own.
-
-- The script is process 1 of a PID namespace, as in a container. SIGTERM, SIGINT and SIGHUP each end the node by `quit`: the audit says yes and
-  dropped nothing, and the status is 0. So it is while peers are connected and blocks are mined, and where the signal comes again and again.
-- Lines that an operator writes into the FIFO are answered, those before the signal too. It ends a node though an operator has the FIFO open.
-  Only a line that has no end yet spoils the `quit` behind it: then the node ends once the operator closes the FIFO.
-- A process that lost its parent is reaped.
-- A signal to the whole process group, as a terminal or systemd sends it, doesn't end the node without its audit.
-- A node that is killed gives 137, one that never reached its peer 3, refused words 1, a program that isn't there 127. If the script is killed,
-  the node ends with its audit.
-
-The status is 0 where all came out so.
+It needs the program, python3, Linux, and unshare and nsenter of util-linux, and takes
+some ten seconds. Where it isn't root, the namespaces are those of a user of their own. --help tells the looks. The status is 0 where all
+came out so.
 """
 
 import os
@@ -22,18 +12,14 @@ import signal
 import subprocess
 import sys
 import tempfile
-import threading
 import time
-from contextlib import ExitStack
 from pathlib import Path
 
-if not __package__:  # called as a file
-    sys.path.insert(0, str(Path(__file__).resolve().parents[2]))
+sys.path.insert(0, str(Path(__file__).resolve().parents[2]))
 
-from bench.tools.command_line import usage
 from bench.tools.plain_peer import dialled
 from bench.tools.process_talk import NodeProcess, ProcessLooks, closed_port
-from bench.tools.programs import ROOT, built
+from bench.tools.programs import ROOT
 
 RUN_NODE = str(Path(ROOT, "scripts/run-node"))
 # A PID namespace of its own, whose process 1 is the command behind these words.
@@ -74,137 +60,115 @@ class Wrapped(NodeProcess):
         """The number of the script's process: behind `unshare` its only child."""
         return children(self.process.pid)[0] if alone else self.process.pid
 
-    def ended(self):
-        """The status, and the lines that were still printed."""
-        status = self.process.wait(timeout=self.seconds)
-        self.logging.join(self.seconds)
-        return status, list(iter(self.line, None))
-
 
 class Signals(ProcessLooks):
     """Ends by signals."""
 
-    def started(self, stack, *words, before=ALONE, shell=()):
-        """A node that listens, behind the script; the number of the script's process and the node's port come with it."""
-        node = stack.enter_context(Wrapped(self.program, *words, before=before, shell=shell))
-        return node, node.port(), node.script(before is ALONE)
+    def started(self, *words, before=ALONE, shell=()):
+        """A node that listens, behind the script; the number of the script's process comes with it."""
+        node = self.enter(Wrapped(self.program, *words, before=before, shell=shell))
+        return node, node.script(before is ALONE)
 
     def ends_well(self, node, asked=False, answers=0, status=0):
         """The node ends with this status and an audit that says yes, and printed so many answers before it."""
-        ended, told = node.ended()
-        self.look("the status, and how many lines were printed", (ended, len(told)), (status, answers + 1))
-        self.says_yes("its audit", told[-1] if told else None, asked)
-        return told[:-1]
+        return self.ended_so(node.rest(), status, asked, answers=answers)
 
     # ---- process 1
 
-    def each_signal_asks_for_the_end(self):
-        """SIGTERM, SIGINT and SIGHUP to process 1 of a PID namespace, by each shell."""
+    def look_each_signal_asks_for_the_end(self):
+        """SIGTERM, SIGINT and SIGHUP to process 1 of a PID namespace, by each shell, end the node by `quit`."""
         for shell in (words for words in SHELLS if shutil.which(words[0])):
             for number in SIGNALS:
-                with ExitStack() as stack:
-                    node, _, script = self.started(stack, shell=shell)
-                    self.look("its number in its namespace", inner(script), 1)
-                    self.begins("mine 3", "mined 3 tip 3", node.say("mine 3"))
-                    os.kill(script, number)
-                    self.ends_well(node)
+                node, script = self.started(shell=shell)
+                self.look("its number in its namespace", inner(script), 1)
+                self.mines(node, 3, height=3)
+                os.kill(script, number)
+                self.ends_well(node)
 
-    def peers_are_connected(self):
+    def look_peers_are_connected(self):
         """SIGTERM while peers are connected, another node is linked, and blocks are mined."""
-        with ExitStack() as stack:
-            node, port, script = self.started(stack)
-            other = stack.enter_context(NodeProcess(self.program, "--connect", f"127.0.0.1:{port}"))
-            other.address()
-            for _ in range(PEERS):
-                stack.enter_context(dialled(port)).shake_hands()
-            self.comes("all handshakes", node, lambda: [peer.phase for peer in node.peers()] == ["ready"] * (PEERS + 1))
-            self.begins("mine", "mined 1 tip 1", node.say("mine"))
-            self.comes("the block", other, lambda: other.tip() == node.tip())
-            node.write("mine 1\n" * BLOCKS)
-            os.kill(script, signal.SIGTERM)
-            told = self.ends_well(node, asked=True, answers=BLOCKS)
-            self.look("the blocks that it was asked for before", [line.split()[:2] for line in told], [["mined", "1"]] * BLOCKS)
-            # compact blocks are soon dropped by a checkpoint
-            self.ends(other, asked=True, drops=None)
+        node, script = self.started()
+        other = self.linked(node)
+        for _ in range(PEERS):
+            self.enter(dialled(node.port)).shake_hands()
+        self.has_peers(node, PEERS + 1)
+        self.mines(node, height=1)
+        self.stands_at(node.tip(), other)
+        node.write("mine 1\n" * BLOCKS)
+        os.kill(script, signal.SIGTERM)
+        told = self.ends_well(node, asked=True, answers=BLOCKS)
+        self.look("the blocks that it was asked for before", [line.split()[:2] for line in told], [["mined", "1"]] * BLOCKS)
+        # compact blocks are soon dropped by a checkpoint
+        self.ends(other, asked=True, drops=None)
 
-    def the_signal_comes_again(self):
+    def look_the_signal_comes_again(self):
         """SIGTERM twice at once, again and again, and SIGINT between."""
         for count in (2, AGAIN):
-            with ExitStack() as stack:
-                node, _, script = self.started(stack)
-                node.say("mine 100")
-                sent = sum(still(script, (signal.SIGTERM, signal.SIGINT)[it % 2] if count > 2 else signal.SIGTERM) for it in range(count))
-                self.look("whether some came", sent > 0, True)
-                self.ends_well(node)
-                self.look("what isn't of the log", [line for line in node.logged if line and "cbrelay] " not in line], [])
-
-    def orphans_are_reaped(self):
-        """A process in the namespace whose parent ends before it."""
-        with ExitStack() as stack:
-            node, _, script = self.started(stack)
-            before = children(script)
-            enter = ["nsenter", f"--target={script}", "--user"] if os.geteuid() else ["nsenter", f"--target={script}"]
-            subprocess.run([*enter, "--pid", "sh", "-c", f"(sleep {ORPHAN} &)"], check=True, timeout=NOTICED)
-            self.look("whether process 1 has it", node.until(lambda: len(children(script)) > len(before), NOTICED), True)
-            self.look("whether it is reaped", node.until(lambda: children(script) == before, NOTICED), True)
-            os.kill(script, signal.SIGTERM)
+            node, script = self.started()
+            node.say("mine 100")
+            sent = sum(still(script, (signal.SIGTERM, signal.SIGINT)[it % 2] if count > 2 else signal.SIGTERM) for it in range(count))
+            self.look("whether some came", sent > 0, True)
             self.ends_well(node)
+            self.look("what isn't of the log", [line for line in node.logged if line and "cbrelay] " not in line], [])
+
+    def look_orphans_are_reaped(self):
+        """A process in the namespace whose parent ends before it."""
+        node, script = self.started()
+        before = children(script)
+        enter = ["nsenter", f"--target={script}", "--user"] if os.geteuid() else ["nsenter", f"--target={script}"]
+        subprocess.run([*enter, "--pid", "sh", "-c", f"(sleep {ORPHAN} &)"], check=True, timeout=NOTICED)
+        self.look("whether process 1 has it", node.until(lambda: len(children(script)) > len(before), NOTICED), True)
+        self.look("whether it is reaped", node.until(lambda: children(script) == before, NOTICED), True)
+        os.kill(script, signal.SIGTERM)
+        self.ends_well(node)
 
     # ---- beside other processes
 
-    def an_operator_keeps_the_fifo_open(self):
-        """The signal comes while an operator has the FIFO open, so the node's input doesn't end."""
-        with ExitStack() as stack:
-            node, _, script = self.started(stack, before=())
-            stack.enter_context(open(node.orders, "w", encoding="ascii"))
-            os.kill(script, signal.SIGTERM)
-            self.ends_well(node)
+    def look_an_operator_keeps_the_fifo_open(self):
+        """The signal comes while an operator has the FIFO open, so the node's input doesn't end. The node does."""
+        node, script = self.started(before=())
+        self.enter(open(node.orders, "w", encoding="ascii"))
+        os.kill(script, signal.SIGTERM)
+        self.ends_well(node)
 
-    def a_line_without_an_end(self):
-        """An operator wrote the beginning of a line, and keeps the FIFO open, when the signal comes."""
-        with ExitStack() as stack:
-            node, _, script = self.started(stack, before=())
-            orders = stack.enter_context(open(node.orders, "w", encoding="ascii"))
-            orders.write("tip")
-            orders.flush()
-            os.kill(script, signal.SIGTERM)
-            self.look("whether it goes on while the FIFO is open", node.until(lambda: node.process.poll() is not None, 1), False)
-            orders.close()
-            self.ends_well(node, answers=1)
+    def look_a_line_without_an_end(self):
+        """A line that has no end yet spoils the `quit` behind it: the node ends once the operator closes the FIFO."""
+        node, script = self.started(before=())
+        orders = self.enter(open(node.orders, "w", encoding="ascii"))
+        orders.write("tip")
+        orders.flush()
+        os.kill(script, signal.SIGTERM)
+        self.look("whether it goes on while the FIFO is open", node.until(lambda: node.process.poll() is not None, 1), False)
+        orders.close()
+        self.ends_well(node, answers=1)
 
-    def the_whole_group_is_signalled(self):
+    def look_the_whole_group_is_signalled(self):
         """Signals to the group of the script and the node, as by Ctrl-C or by KillMode=control-group."""
         for number in SIGNALS:
-            with ExitStack() as stack:
-                node, _, script = self.started(stack, before=["setsid"])
-                os.killpg(script, number)
-                self.ends_well(node)
+            node, script = self.started(before=["setsid"])
+            os.killpg(script, number)
+            self.ends_well(node)
 
-    def a_status_is_passed_on(self):
-        """The node is killed, never reaches its peer, has refused words, or isn't there; the script is told no program."""
-        with ExitStack() as stack:
-            node, _, script = self.started(stack)
-            os.kill(children(script)[0], signal.SIGKILL)
-            self.look("the end of one that is killed", node.ended(), (KILLED, []))
-        with ExitStack() as stack:
-            node, _, script = self.started(stack, "--connect", f"127.0.0.1:{closed_port()}")
-            os.kill(script, signal.SIGTERM)
-            self.ends_well(node, status=3)
+    def look_a_status_is_passed_on(self):
+        """A node that is killed gives 137, one that never reached its peer 3, refused words 1, a program that isn't there 127."""
+        node, script = self.started()
+        os.kill(children(script)[0], signal.SIGKILL)
+        self.look("the end of one that is killed", node.rest(), (KILLED, []))
+        node, script = self.started("--connect", f"127.0.0.1:{closed_port()}")
+        os.kill(script, signal.SIGTERM)
+        self.ends_well(node, status=3)
         for words, status in (([self.program, "node", "--tick", "0"], 1), (["/nowhere/cbrelay", "node"], 127), ([], 1), (["--orders", "x"], 1),
                               (["--orders", __file__, self.program, "node"], 3)):
             ran = subprocess.run([RUN_NODE, *words], stdin=subprocess.DEVNULL, capture_output=True, text=True, timeout=60, check=False)
             self.look(f"the status of {words}", (ran.returncode, ran.stdout), (status, ""))
             self.look(f"whether {words} are told why", ran.stderr != "", True)
 
-    def the_script_is_killed(self):
-        """SIGKILL to the script alone: the node comes to the end of its input."""
-        with ExitStack() as stack:
-            node, _, script = self.started(stack, before=())
-            self.begins("mine", "mined 1 tip 1", node.say("mine"))
-            os.kill(script, signal.SIGKILL)
-            status, told = node.ended()
-            self.look("the script's end, and how many lines were printed", (status, len(told)), (-signal.SIGKILL, 1))
-            self.says_yes("the node's audit", told[-1] if told else None)
+    def look_the_script_is_killed(self):
+        """SIGKILL to the script alone: the node comes to the end of its input, and ends with its audit."""
+        node, script = self.started(before=())
+        self.mines(node, height=1)
+        os.kill(script, signal.SIGKILL)
+        self.ended_so(node.rest(), -signal.SIGKILL)
 
 
 def children(process):
@@ -228,17 +192,5 @@ def still(process, number):
     return True
 
 
-def main():
-    words = usage(__doc__, program="the program")
-    words.add_argument("--only", help="the name of the look to make alone")
-    given = words.parse_args()
-    looks = Signals("node_signals", built(given.program, "cbrelay"))
-    for look in (looks.each_signal_asks_for_the_end, looks.peers_are_connected, looks.the_signal_comes_again, looks.orphans_are_reaped,
-                 looks.an_operator_keeps_the_fifo_open, looks.a_line_without_an_end, looks.the_whole_group_is_signalled, looks.a_status_is_passed_on, looks.the_script_is_killed):
-        if given.only in (None, look.__name__):
-            looks.make(look)
-    return looks.told()
-
-
 if __name__ == "__main__":
-    sys.exit(main())
+    sys.exit(Signals.main(__doc__))

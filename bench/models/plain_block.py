@@ -5,8 +5,7 @@ They were written apart from the program.
 
 import struct
 
-from bench.tools.network import has_work, header_text
-from bench.tools.texts import compact_size, hash_twice, merkle_root
+from bench.tools.basics import compact_size, has_work, hash_twice, header_text, merkle_root
 
 MOST_MONEY = 2_100_000_000_000_000
 NULL_POINT = (bytes(32), 0xFFFF_FFFF)
@@ -14,37 +13,12 @@ GENESIS_TIME = 1_296_688_602
 
 
 class Tx:
-    """A transaction: what it spends and makes, its text, and its name. A coinbase spends nothing."""
-
-    def __init__(self, mark, spent, values, script=b"\x51"):
-        self.spent, self.values = spent, values
-        mark = b"\x04" + struct.pack("<I", mark) + b"\xff" * 4
-        inputs = [txid + struct.pack("<I", index) + mark for txid, index in spent] or [bytes(32) + b"\xff" * 4 + mark]
-        outputs = [struct.pack("<q", value) + compact_size(len(script)) + script for value in values]
-        self.text = (struct.pack("<i", 1) + compact_size(len(inputs)) + b"".join(inputs) + compact_size(len(outputs))
-                     + b"".join(outputs) + bytes(4))
-        self.name = hash_twice(self.text)
-
-    def is_coinbase(self):
-        return not self.spent
-
-    def points(self):
-        return [(self.name, index) for index in range(len(self.values))]
-
-    def broken_rule(self):
-        if any(not 0 <= value <= MOST_MONEY for value in self.values):
-            return 4
-        if len(set(self.spent)) < len(self.spent):
-            return 6
-        return None
-
-
-class AnyTx(Tx):
-    """A transaction of any inputs, each a point and a script, and any values."""
+    """A transaction of any inputs, each a point and a script, and any values: its text, its name, and what it spends. A coinbase spends
+    nothing."""
 
     def __init__(self, inputs, values, script=b"\x51"):
         self.inputs, self.values = inputs, values
-        self.spent = [] if [point for point, _ in inputs] == [NULL_POINT] else [point for point, _ in inputs]
+        self.spent = [] if self.is_coinbase() else [point for point, _ in inputs]
         made = b"".join(struct.pack("<q", value) + compact_size(len(script)) + script for value in values)
         spent = b"".join(point[0] + struct.pack("<I", point[1]) + compact_size(len(text)) + text + b"\xff" * 4 for point, text in inputs)
         self.text = struct.pack("<i", 1) + compact_size(len(inputs)) + spent + compact_size(len(values)) + made + bytes(4)
@@ -52,6 +26,9 @@ class AnyTx(Tx):
 
     def is_coinbase(self):
         return [point for point, _ in self.inputs] == [NULL_POINT]
+
+    def points(self):
+        return [(self.name, index) for index in range(len(self.values))]
 
     def broken_rule(self):
         points = [point for point, _ in self.inputs]
@@ -72,9 +49,9 @@ class AnyTx(Tx):
         return 8 if NULL_POINT in points else None
 
 
-def paying(mark, spent, values):
-    """A transaction that spends these points."""
-    return AnyTx([(point, struct.pack("<I", mark)) for point in spent], values)
+def paying(mark, spent, values, script=b"\x51"):
+    """A transaction that spends these points, told from others by its mark; a coinbase where there are none."""
+    return Tx([(point, struct.pack("<I", mark)) for point in spent or [NULL_POINT]], values, script)
 
 
 class Header:
@@ -116,7 +93,7 @@ class MinedBlock(Block):
 def sized(prev, size):
     """A block of a coinbase whose text has this size."""
     def made(script):
-        return Block(prev, [AnyTx([(NULL_POINT, bytes(4))], [50], bytes(script))])
+        return Block(prev, [Tx([(NULL_POINT, bytes(4))], [50], bytes(script))])
 
     rest = size - len(made(0).text)
     # The script's length takes one byte, or five.

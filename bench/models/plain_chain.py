@@ -3,7 +3,7 @@
 It was written apart from the program. It keeps what came, and finds what is unspent, and the best block where it changes, anew.
 """
 
-from bench.tools.network import GENESIS
+from bench.tools.basics import GENESIS
 
 
 def connected(unspent, block):
@@ -82,32 +82,24 @@ class PlainChain:
         return None
 
     def take_header(self, header):
-        fault = self.header_fault(header)
+        fault = self.fault_of(header, False)
         if fault is None:
             self.add(header)
         return fault or "taken"
 
-    def header_fault(self, header):
+    def fault_of(self, header, block):
+        """The fault of a header, or of the header of a block that is given."""
         if not header.works:
             return "F11 BadWork"
         if header.name in self.marked:
             return "F24 BadParent"
-        if self.is_known(header.name):
+        if self.has_block(header.name) if block else self.is_known(header.name):
             return "F18 Known"
-        return self.fault_on(header.prev, False)
-
-    def block_fault(self, header):
-        if not header.works:
-            return "F11 BadWork"
-        if header.name in self.marked:
-            return "F24 BadParent"
-        if self.has_block(header.name):
-            return "F18 Known"
-        return self.fault_on(header.prev, True)
+        return self.fault_on(header.prev, block)
 
     def take_block(self, block):
         """The fault, or what went off and what came on."""
-        fault = self.block_fault(block.header)
+        fault = self.fault_of(block.header, True)
         if fault:
             return fault
         name, old = block.header.name, self.tip()

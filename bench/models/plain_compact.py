@@ -1,12 +1,12 @@
 """Compact blocks in Python: short ids, indexes as differences, and what comes of a compact block, by BIP 152 and by the paper on SipHash.
 
-It was written apart from the program. A block is rebuilt in the slow way: each id looks through all pairs. Transactions are their texts.
+It was written apart from the program. Transactions are their texts.
 """
 
 import hashlib
 import struct
 
-from bench.tools.texts import hash_twice, merkle_root
+from bench.tools.basics import hash_twice, merkle_root
 
 WORD = (1 << 64) - 1
 
@@ -94,14 +94,11 @@ def judged(header, texts):
 
 def slots(ids, prefilled, pairs):
     """What stands at each place: a transaction, or None. The prefilled ones are pairs of a place and a transaction."""
-    whole, rest = dict(prefilled), iter(ids)
-    found = []
+    whole, rest, by_id, found = dict(prefilled), iter(ids), {}, []
+    for number, text in pairs:
+        by_id.setdefault(number, []).append(text)
     for place in range(len(ids) + len(prefilled)):
-        if place in whole:
-            found.append(whole[place])
-            continue
-        wanted = next(rest)
-        candidates = [text for other, text in pairs if other == wanted]
+        candidates = [whole[place]] if place in whole else by_id.get(next(rest), [])
         found.append(candidates[0] if len(candidates) == 1 else None)
     return found
 

@@ -1,7 +1,8 @@
 """A plain hall: what the peers of a node share, and what each question is answered, by the rules in docs/PROTOCOL.md.
 
 It was written apart from the program. It keeps all calls that were granted, and where the journal began anew; how things stand is
-computed from the calls (now and then that is kept, so that a call doesn't cost all of them).
+computed from the calls (now and then that is kept, so that a call doesn't cost all of them). The plain session (plain_session.py) reads
+and changes what peers share by it, so both tell the same.
 """
 
 import copy
@@ -9,15 +10,13 @@ import struct
 from collections import Counter
 from types import SimpleNamespace
 
-from bench.models.plain_block import GENESIS_TIME, NULL_POINT, AnyTx, MinedBlock
+from bench.models.plain_block import GENESIS_TIME, NULL_POINT, MinedBlock, Tx
 from bench.models.plain_chain import PlainChain, connected
 from bench.models.plain_compact import indexes, key_of, short_id
-from bench.tools.network import GENESIS
-from bench.tools.texts import compact_size, line, shown
+from bench.models.plain_wire import BLOCK, COMPACT, GENESIS_BLOCK, TX, Fault
+from bench.tools.basics import GENESIS, compact_size, line, shown
 
-PEERS, GENESIS_SIZE = 64, 285
-# The first block's one transaction: its name, as it is shown, and its size.
-GENESIS_TX = ("4a5e1e4baab89f3a32518a88c31bc87f618f76673e2cc77ab2127b7afdeda33b", 204)
+PEERS = 64
 POOL, ANNOUNCERS, ANNOUNCED, DEPTH, PART_DEPTH, BLOCK_BYTES = 10_000, 3, 8, 5, 10, 1_000_000
 JOURNAL_ENTRIES, JOURNAL_WEIGHT, ENTRY_WEIGHT, LISTED_WEIGHT = 1_000_000, 64_000_000, 64, 40
 # How many calls are folded at the most to tell how things stand.
@@ -71,6 +70,64 @@ class Shared:
     def has_block(self, name):
         return self.chain.has_block(name) and name not in self.chain.marked
 
+    def kept(self, name):
+        return GENESIS_BLOCK if name == GENESIS else self.chain.kept[name]
+
+    def depth(self, name):
+        """How far below the tip's height a block stands."""
+        return self.height() - self.chain.height(name)
+
+    # ---- what is read and changed
+
+    def take_headers(self, headers):
+        """The names of those whose blocks are lacking, and the refusal that ended it."""
+        lack = []
+        for header in headers:
+            ended = self.chain.take_header(header)
+            if ended not in ("taken", "F18 Known"):
+                return lack, ended
+            lack += [header.name] if self.lacks(header.name) else []
+        return lack, None
+
+    def needed(self, entries):
+        """The transactions and blocks among these that are lacking, each once."""
+        pooled = {tx.name for tx, _ in self.pool}
+        return [(kind, name) for kind, name in dict.fromkeys(entries) if kind == TX and name not in pooled or kind == BLOCK and self.lacks(name)]
+
+    def is_near(self, names):
+        """Whether this is one block alone, whose header stands on the tip."""
+        headers = self.chain.headers
+        return len(names) == 1 and names[0] in headers and headers[names[0]].prev == self.tip()
+
+    def served(self, kind, name):
+        """How a transaction or a block that is asked for is told, and itself."""
+        if kind == TX:
+            tx = next((tx for tx, _ in self.pool if tx.name == name), None)
+            return "tx" if tx else "lacking", tx
+        if not self.has_block(name):
+            return "lacking", None
+        return "short" if kind == COMPACT and self.depth(name) <= DEPTH else "whole", self.kept(name)
+
+    def places(self, name, differences):
+        """A block, and its transactions at these places; none of them deep down, where the whole block is told. No block where it isn't
+        there."""
+        if not self.has_block(name):
+            return None, None
+        block = self.kept(name)
+        places = indexes(differences, len(block.txs))
+        if places is None:
+            raise Fault(16)
+        return block, [block.txs[place] for place in places] if self.depth(name) <= PART_DEPTH else None
+
+    def pairs(self, header, nonce):
+        """The pool, each transaction behind its short id."""
+        key = key_of(header, nonce)
+        return [(short_id(key, tx.name), tx) for tx, _ in self.pool]
+
+    def news(self, tip, number):
+        """The way from a tip to this one, and what came to the pool from a number on."""
+        return self.chain.path(tip) if tip is not None else [], [tx.name for tx, other in self.pool if other >= number]
+
     # ---- entries
 
     def step(self, entry):
@@ -100,25 +157,18 @@ class Shared:
         return line("locator", self.chain.locator()), 0
 
     def answer_headers(self, _, headers):
-        refused, lack = "-", []
-        for header in headers:
-            ended = self.chain.take_header(header)
-            if ended not in ("taken", "F18 Known"):
-                refused = ended
-                break
-            lack += [header.name] if self.lacks(header.name) else []
-        return line(line(f"heads {refused} lack", lack) + " locator", self.locator_for(refused)), 0
+        lack, refused = self.take_headers(headers)
+        return line(line(f"heads {refused or '-'} lack", lack) + " locator", self.locator_for(refused)), 0
 
     def locator_for(self, refused):
         return self.chain.locator() if refused == "F23 NoParent" else []
 
     def answer_want(self, _, entries):
-        pooled = {tx.name for tx, _ in self.pool}
-        wanted = [(kind, name) for kind, name in dict.fromkeys(entries) if kind == 1 and name not in pooled or kind == 2 and self.lacks(name)]
-        blocks = [name for kind, name in wanted if kind == 2]
-        near = len(blocks) == 1 and blocks[0] in self.chain.headers and self.chain.headers[blocks[0]].prev == self.tip()
+        wanted = self.needed(entries)
+        blocks = [name for kind, name in wanted if kind == BLOCK]
         told = "".join(f" {kind} {shown(name)}" for kind, name in wanted)
-        return line(f"need{told} near {str(near).lower()} locator", self.chain.locator() if blocks else []), len(wanted)
+        near = str(self.is_near(blocks)).lower()
+        return line(f"need{told} near {near} locator", self.chain.locator() if blocks else []), len(wanted)
 
     def answer_tx(self, _, tx):
         refused = self.refusal(tx)
@@ -170,45 +220,35 @@ class Shared:
             self.next += number is None
 
     def answer_items(self, _, entries):
-        pieces = [self.piece(kind, name) for kind, name in entries if kind in (1, 2, 4)]
+        pieces = [self.piece(kind, name) for kind, name in entries if kind in (TX, BLOCK, COMPACT)]
         return "served" + "".join(pieces), len(pieces)
 
     def piece(self, kind, name):
-        if kind == 1:
-            for tx, _ in self.pool:
-                if tx.name == name:
-                    return f" tx {shown(name)} {len(tx.text)}"
-        elif self.has_block(name):
-            near = kind == 4 and self.chain.height(name) + DEPTH >= self.height()
-            size = GENESIS_SIZE if name == GENESIS else len(self.chain.kept[name].text)
-            return f" {'short' if near else 'whole'} {shown(name)} {size}"
-        return f" lacking {kind} {shown(name)}"
+        word, found = self.served(kind, name)
+        return f" {word} {shown(name)} {len(found.text)}" if found else f" lacking {kind} {shown(name)}"
 
     def answer_places(self, _, name, differences):
         """The transactions at places of a block, or all of it where it is deep down."""
-        if not self.has_block(name):
-            return "absent", 0
-        txs = [GENESIS_TX] if name == GENESIS else [(shown(tx.name), len(tx.text)) for tx in self.chain.kept[name].txs]
-        places = indexes(differences, len(txs))
-        if places is None:
+        try:
+            block, txs = self.places(name, differences)
+        except Fault:
             return "places F16 BadIndex", 0
-        if self.chain.height(name) + PART_DEPTH >= self.height():
-            return f"part {shown(name)}" + "".join(f" tx {txs[place][0]} {txs[place][1]}" for place in places), 0
-        return f"whole {shown(name)} {GENESIS_SIZE if name == GENESIS else len(self.chain.kept[name].text)}", 0
+        if block is None:
+            return "absent", 0
+        if txs is None:
+            return f"whole {shown(name)} {len(block.text)}", 0
+        return f"part {shown(name)}" + "".join(f" tx {shown(tx.name)} {len(tx.text)}" for tx in txs), 0
 
     def answer_match(self, _, header, nonce, ids):
-        key = key_of(header, nonce)
-        pairs = [(short_id(key, tx.name), tx) for tx, _ in self.pool]
-        return "pairs" + "".join(f" {number} {shown(tx.name)}" for number, tx in pairs if number in ids), 0
+        return "pairs" + "".join(f" {number} {shown(tx.name)}" for number, tx in self.pairs(header, nonce) if number in ids), 0
 
     def answer_after(self, _, locator, stop):
         return line("following", self.chain.after(locator, stop)), 0
 
     def answer_news(self, connection, tip, number, whole):
-        way = self.chain.path(tip) if tip is not None else []
+        way, txids = self.news(tip, number)
         is_long, only = len(way) > ANNOUNCED, len(way) == 1
         block = f" block {shown(self.tip())} {len(self.chain.kept[self.tip()].text)}" if whole and only else ""
-        txids = [tx.name for tx, other in self.pool if other >= number]
         told = line(line("news", [self.tip()]) + " path", way[-1:] if is_long else way) + f" long {str(is_long).lower()}{block}"
         high = str(connection in self.announcers).lower()
         return line(told + " txids", txids) + f" next {self.next} high {high}", len(txids)
@@ -221,7 +261,7 @@ class Shared:
     def mined(self, mark):
         """The block of the next height: the longest beginning of the pool that fits."""
         height = self.height() + 1
-        txs = [AnyTx([(NULL_POINT, struct.pack("<I", height) + bytes([mark]))], [5_000_000_000])]
+        txs = [Tx([(NULL_POINT, struct.pack("<I", height) + bytes([mark]))], [5_000_000_000])]
         size = 80 + len(txs[0].text)
         for tx, _ in self.pool:
             size += len(tx.text)

@@ -6,15 +6,13 @@ where a transaction breaks one. Bytes are read by bench/models/plain_wire.py.
 
 import struct
 
-from bench.models.plain_compact import differences, indexes, is_mutated, judged, key_of, missing, short_id
-from bench.models.plain_payload import Fault, after_tx
-from bench.models.plain_wire import KNOWN, ReadTx, read, read_txs, spelled
-from bench.tools.messages import envelope
-from bench.tools.network import MAGIC, has_work
-from bench.tools.texts import compact_size, hash_twice, merkle_root
+from bench.models import plain_wire as wire
+from bench.models.plain_compact import differences, indexes, is_mutated, judged, key_of, missing, short_id, slots
+from bench.models.plain_wire import FRONT, MOST_PAYLOAD, READERS, Fault, compact_form, is_command, read, short_ids, spelled, tx_at, txs_at
+from bench.tools.basics import envelope, has_work, hash_twice, merkle_root
 
 REGTEST_BITS = 0x207F_FFFF
-MOST_PAYLOAD, MOST_BLOCK, LEAF = 4_000_000, 1_000_000, 64
+MOST_BLOCK, LEAF = 1_000_000, 64
 DAMAGED, PARTIAL = 65538, 65537
 
 
@@ -37,9 +35,9 @@ def sized_header(text):
 
 
 def read_tx(text):
-    place = after_tx(text, 0)
+    tx, place = tx_at(text, 0)
     whole(text, place)
-    return ReadTx(text)
+    return tx
 
 
 # ---- hashes, headers, transactions, blocks
@@ -102,14 +100,12 @@ def block_check(text):
 
 def compact_block(text, nonce):
     block = block_check(text)
-    key = key_of(text[:80], nonce)
-    ids = b"".join(short_id(key, tx.name).to_bytes(6, "little") for tx in block.txs[1:])
-    return text[:80] + struct.pack("<Q", nonce) + compact_size(len(block.txs) - 1) + ids + b"\1\0" + block.txs[0].text
+    return compact_form(text[:80], nonce, short_ids(block, nonce), [(0, block.txs[0].text)])
 
 
 def listed(text):
     """The transactions that are all of these bytes, behind their count."""
-    txs, place = read_txs(text, 0)
+    txs, place = txs_at(text, 0)
     whole(text, place)
     return [tx.text for tx in txs]
 
@@ -123,30 +119,18 @@ def placed(message, txs, names=None):
     given = listed(txs)
     if names is not None and len(names) != len(given):
         raise Fault(17)
-    key = key_of(told.header.text, told.nonce)
-    by_name = zip((hash_twice(it) for it in given) if names is None else names, given)
-    pairs = {}
-    for name, text in by_name:
-        pairs.setdefault(short_id(key, name), []).append(text)
     if len(set(told.ids)) < len(told.ids):
         return None, told.header
-    prefilled, rest, found = dict(zip(places, (tx.text for _, tx in told.prefilled))), iter(told.ids), []
-    for place in range(len(told.ids) + len(told.prefilled)):
-        candidates = [prefilled[place]] if place in prefilled else pairs.get(next(rest), [])
-        found.append(candidates[0] if len(candidates) == 1 else None)
-    return found, told.header
+    key = key_of(told.header.text, told.nonce)
+    pairs = [(short_id(key, name), text) for name, text in zip(map(hash_twice, given) if names is None else names, given)]
+    return slots(told.ids, list(zip(places, (tx.text for _, tx in told.prefilled))), pairs), told.header
 
 
 def block_text(header, texts):
     """The block of these transactions, or nothing where it isn't sound."""
     if judged(header.text, texts) != "sound":
         return "useless", b""
-    return "block", header.text + compact_size(len(texts)) + b"".join(texts)
-
-
-def request_text(header, found):
-    places = differences(missing(found))
-    return header.name + compact_size(len(places)) + b"".join(map(spelled, places))
+    return "block", header.text + wire.listed(texts)
 
 
 def rebuild_block(message, txs, names=None):
@@ -155,7 +139,7 @@ def rebuild_block(message, txs, names=None):
     if found is None:
         return "useless", b""
     if missing(found):
-        return "request", request_text(header, found)
+        return "request", header.name + wire.listed([spelled(step) for step in differences(missing(found))])
     return block_text(header, found)
 
 
@@ -170,7 +154,7 @@ def block_transactions(text, request):
     places = indexes(steps, len(block.txs))
     if places is None:
         raise Fault(16)
-    return name + compact_size(len(places)) + b"".join(block.txs[it].text for it in places)
+    return name + wire.listed([block.txs[it].text for it in places])
 
 
 def complete_block(message, txs, answer):
@@ -191,17 +175,13 @@ def complete_block(message, txs, answer):
 # ---- messages
 
 
-def is_command(name):
-    return 1 <= len(name) <= 12 and all(0x20 <= byte <= 0x7E for byte in name)
-
-
 def message_fault(name, payload):
     """The status of a message: 0, or what is wrong with it."""
     if not is_command(name):
         return DAMAGED
     if len(payload) > MOST_PAYLOAD:
         return 13
-    if name.decode("ascii") not in KNOWN:
+    if name.decode("ascii") not in READERS:
         return 0
     try:
         read(name.decode("ascii"), payload)
@@ -212,17 +192,15 @@ def message_fault(name, payload):
 
 def envelope_at(stream):
     """The status, and where it is 0 the payload's length and what is wrong with the message."""
-    if len(stream) < 24:
+    try:
+        found = wire.envelope_at(stream)
+    except Fault as fault:
+        return fault.number, None, None
+    if found is None:
         return PARTIAL, None, None
-    if stream[:4] != MAGIC:
-        return 12, None, None
-    size = struct.unpack("<I", stream[16:20])[0]
-    if size > MOST_PAYLOAD:
-        return 13, None, None
-    if len(stream) < 24 + size:
-        return PARTIAL, None, None
-    payload, name = stream[24 : 24 + size], stream[4:16].rstrip(b"\0")
-    return 0, size, DAMAGED if hash_twice(payload)[:4] != stream[20:24] else message_fault(name, payload)
+    front, payload, end = found
+    is_damaged = wire.command_of(front, payload) is None
+    return 0, end - FRONT, DAMAGED if is_damaged else message_fault(front[4:16].rstrip(b"\0"), payload)
 
 
 def message_write(name, payload):

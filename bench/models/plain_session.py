@@ -1,23 +1,21 @@
 """A plain session: what one connection is answered, by docs/PROTOCOL.md, over a plain hall's state.
 
-It was written apart from the program. Items come whole; each is processed to its end, with all that it asks. `met` counts the
-rules of compact blocks that came up.
+It was written apart from the program. Items come whole; each is processed to its end, with all that it asks of the hall. `met` counts
+the rules of compact blocks that came up.
 """
 
 import struct
+import sys
 from collections import Counter
 from dataclasses import dataclass, field
 
 from bench.models import plain_wire as wire
-from bench.models.plain_compact import differences, indexes, judged, key_of, missing, short_id, slots
-from bench.models.plain_hall import ANNOUNCED, DEPTH, PART_DEPTH
-from bench.models.plain_payload import Fault
-from bench.tools.messages import envelope
-from bench.tools.network import GENESIS, MAGIC
-from bench.tools.texts import compact_size, hash_twice
+from bench.models.plain_compact import differences, indexes, judged, missing, slots
+from bench.models.plain_hall import ANNOUNCED, DEPTH, PART_DEPTH, Shared
+from bench.models.plain_wire import BLOCK, COMPACT, TX, Fault
+from bench.tools.basics import envelope
 
 MOST_FLIGHT, MOST_WANTED, MOST_QUESTIONS = 16, 2_000, 6
-TX, BLOCK, COMPACT = 1, 2, 4
 WORD = (1 << 64) - 1
 
 
@@ -50,13 +48,7 @@ def is_sound(header, txs):
 
 def whole(header, txs):
     """The block of these transactions."""
-    return wire.ReadBlock(header.text + compact_size(len(txs)) + b"".join(tx.text for tx in txs), txs)
-
-
-def compact(block, nonce):
-    """A block as a compact one: its first transaction whole, and short ids of all others."""
-    key = key_of(block.header.text, nonce)
-    return wire.cmpctblock(block.header.text, nonce, [short_id(key, tx.name) for tx in block.txs[1:]], [(0, block.txs[0].text)])
+    return wire.ReadBlock(header.text + wire.listed([tx.text for tx in txs]), txs)
 
 
 @dataclass
@@ -89,7 +81,10 @@ class PlainSession:
     met: Counter = field(default_factory=Counter)
 
     def opening(self):
-        return b"" if self.settings.inbound else wire.version(self.settings)
+        return b"" if self.settings.inbound else self.version_told()
+
+    def version_told(self):
+        return wire.version(self.settings.nonce, self.settings.time, self.settings.height)
 
     def item(self, item):
         """What is sent for an item: ("good", name, value), ("bad",) or another word. None is a tick."""
@@ -128,7 +123,7 @@ class PlainSession:
         if told.version < 70001:
             raise Closed("OldPeer")
         self.phase, self.version, self.relay = "Greeted", told.version, told.relay
-        self.out += [wire.version(self.settings)] * self.settings.inbound + [envelope(b"verack", b"")]
+        self.out += [self.version_told()] * self.settings.inbound + [envelope(b"verack", b"")]
 
     def ready(self):
         self.phase = "Ready"
@@ -180,13 +175,7 @@ class PlainSession:
     def give_headers(self, headers):
         """The names of those whose blocks are lacking, and the refusal that ended it."""
         self.questions += 1
-        lack, refused = [], None
-        for header in headers:
-            ended = self.shared.chain.take_header(header)
-            if ended not in ("taken", "F18 Known"):
-                refused = ended
-                break
-            lack += [header.name] if self.shared.lacks(header.name) else []
+        lack, refused = self.shared.take_headers(headers)
         if refused == "F11 BadWork":
             raise Closed("BadBlock")
         return lack, refused
@@ -233,72 +222,57 @@ class PlainSession:
 
     def needed(self, entries):
         self.questions += 1
-        pooled = {tx.name for tx, _ in self.shared.pool}
-        return [(kind, name) for kind, name in dict.fromkeys(entries) if (name not in pooled if kind == TX else self.shared.lacks(name))]
+        return self.shared.needed(entries)
 
     def told_getdata(self, entries):
         self.questions += 1
         lacking = []
-        for kind, name in entries:
-            if kind not in (TX, BLOCK, COMPACT):
-                continue
-            message = self.tx_of(name) if kind == TX else self.block_of(kind, name)
-            if message is None:
+        for kind, name in (it for it in entries if it[0] in (TX, BLOCK, COMPACT)):
+            word, found = self.shared.served(kind, name)
+            self.note_served(kind, name, word)
+            if word == "lacking":
                 lacking.append((kind, name))
             else:
-                self.out.append(message)
+                self.out.append(self.made_compact(found) if word == "short" else envelope(b"tx" if word == "tx" else b"block", found.text))
         if lacking:
             self.out.append(wire.entries(b"notfound", lacking))
 
-    def tx_of(self, name):
-        return next((envelope(b"tx", tx.text) for tx, _ in self.shared.pool if tx.name == name), None)
-
-    def block_of(self, kind, name):
-        """A block as it is sent: near the tip as a compact one where it was asked for so."""
-        if not self.shared.has_block(name):
-            self.met["a compact block that isn't there"] += kind == COMPACT
-            return None
-        if kind == COMPACT and self.depth(name) <= DEPTH:
-            self.met["asked of us: compact"] += 1
-            self.met["asked of us: compact at 5"] += self.depth(name) == DEPTH
-            return self.made_compact(self.kept(name))
-        self.met["asked of us: compact, sent whole"] += kind == COMPACT
-        self.met["asked of us: compact, whole at 6"] += kind == COMPACT and self.depth(name) == DEPTH + 1
-        return envelope(b"block", self.kept(name).text)
-
-    def kept(self, name):
-        return GENESIS_BLOCK if name == GENESIS else self.shared.chain.kept[name]
-
-    def depth(self, name):
-        """How far below the tip's height a block stands."""
-        return self.shared.height() - self.shared.chain.height(name)
+    def note_served(self, kind, name, word):
+        """Notes how a block is told that was asked for as a compact one."""
+        if kind != COMPACT:
+            return
+        depth = self.shared.depth(name) if word != "lacking" else None
+        self.met["a compact block that isn't there"] += word == "lacking"
+        self.met["asked of us: compact"] += word == "short"
+        self.met["asked of us: compact at 5"] += word == "short" and depth == DEPTH
+        self.met["asked of us: compact, sent whole"] += word == "whole"
+        self.met["asked of us: compact, whole at 6"] += word == "whole" and depth == DEPTH + 1
 
     def made_compact(self, block):
         """A compact block under the next nonce."""
-        message = compact(block, (self.settings.salt + self.made) & WORD)
+        message = wire.compact(block, (self.settings.salt + self.made) & WORD)
         self.made = (self.made + 1) & WORD
         return message
 
     def told_getblocktxn(self, request):
         name, steps = request
         self.questions += 1
-        if not self.shared.has_block(name):
-            self.met["getblocktxn: no block"] += 1
-            return
-        txs = self.kept(name).txs
-        places = indexes(steps, len(txs))
-        if places is None:
+        try:
+            block, txs = self.shared.places(name, steps)
+        except Fault:
             self.met["getblocktxn: no place"] += 1
-            raise Closed("BadRequest")
-        if self.depth(name) > PART_DEPTH:
+            raise Closed("BadRequest") from None
+        if block is None:
+            self.met["getblocktxn: no block"] += 1
+        elif txs is None:
             self.met["getblocktxn: whole"] += 1
-            self.met["getblocktxn: whole at 11"] += self.depth(name) == PART_DEPTH + 1
-            self.out.append(envelope(b"block", self.kept(name).text))
-            return
-        self.met["getblocktxn: part"] += 1
-        self.met["getblocktxn: part at 10"] += self.depth(name) == PART_DEPTH
-        self.met["getblocktxn: several"] += len(places) > 1
-        self.out.append(wire.blocktxn(name, [txs[place].text for place in places]))
+            self.met["getblocktxn: whole at 11"] += self.shared.depth(name) == PART_DEPTH + 1
+            self.out.append(wire.block(block.text))
+        else:
+            self.met["getblocktxn: part"] += 1
+            self.met["getblocktxn: part at 10"] += self.shared.depth(name) == PART_DEPTH
+            self.met["getblocktxn: several"] += len(txs) > 1
+            self.out.append(wire.blocktxn(name, [tx.text for tx in txs]))
 
     def told_getheaders(self, request):
         self.questions += 1
@@ -372,8 +346,7 @@ class PlainSession:
             self.met["cmpctblock: repeated ids"] += 1
             self.fall_back(short.header)
             return
-        key = key_of(short.header.text, short.nonce)
-        found = slots(short.ids, prefilled, [(short_id(key, tx.name), tx) for tx, _ in self.shared.pool])
+        found = slots(short.ids, prefilled, self.shared.pairs(short.header.text, short.nonce))
         places = missing(found)
         if places:
             self.met["cmpctblock: places missing"] += 1
@@ -431,9 +404,10 @@ class PlainSession:
             need = [name for _, name in self.needed([(BLOCK, name) for name in self.wanted])]
             self.flight, self.wanted = need[:MOST_FLIGHT], need[MOST_FLIGHT:]
             if self.flight:
-                kind = COMPACT if self.capable and self.is_near(need) else BLOCK
+                is_near = self.shared.is_near(need)
+                kind = COMPACT if self.capable and is_near else BLOCK
                 self.met["asked for: compact"] += kind == COMPACT
-                self.met["asked for: whole, near"] += kind == BLOCK and self.is_near(need)
+                self.met["asked for: whole, near"] += kind == BLOCK and is_near
                 self.met["asked for: whole of a capable peer"] += kind == BLOCK and self.capable
                 self.out.append(wire.entries(b"getdata", [(kind, name) for name in self.flight]))
         self.resume()
@@ -446,16 +420,11 @@ class PlainSession:
             self.out.append(wire.getheaders([self.resume_from]))
             self.resume_from = None
 
-    def is_near(self, need):
-        """Whether one block alone is needed, whose header stands on the tip."""
-        headers = self.shared.chain.headers
-        return len(need) == 1 and need[0] in headers and headers[need[0]].prev == self.shared.tip()
-
     def news(self):
         self.questions += 1
         tip = self.shared.tip()
-        path = self.shared.chain.path(self.told) if self.told is not None else []
-        txids = [tx.name for tx, number in self.shared.pool if number >= self.next and tx.name != self.brought]
+        path, txids = self.shared.news(self.told, self.next)
+        txids = [name for name in txids if name != self.brought]
         high = self.connection in self.shared.announcers
         self.told, self.next = tip, self.shared.next
         if path and tip != self.heard:
@@ -472,7 +441,7 @@ class PlainSession:
         """Tells a new tip: as a compact block, by headers, or by its hash."""
         if self.wants_high and len(path) == 1:
             self.met["told: compact"] += 1
-            self.out.append(self.made_compact(self.kept(tip)))
+            self.out.append(self.made_compact(self.shared.kept(tip)))
         elif self.by_headers and len(path) <= ANNOUNCED:
             self.met["told: headers"] += 1
             self.met["told: headers, of several"] += len(path) > 1
@@ -484,19 +453,13 @@ class PlainSession:
             self.out.append(wire.entries(b"inv", [(BLOCK, tip)]))
 
 
-GENESIS_TEXT = bytes.fromhex(
-    "0100000000000000000000000000000000000000000000000000000000000000000000003ba3edfd7a7b12b27ac72c3e67768f617fc81bc3888a51323a9fb8aa4b1e5e4a"
-    "dae5494dffff7f200200000001"
-    "01000000010000000000000000000000000000000000000000000000000000000000000000ffffffff4d04ffff001d0104455468652054696d65732030332f4a616e2f32"
-    "303039204368616e63656c6c6f72206f6e206272696e6b206f66207365636f6e64206261696c6f757420666f722062616e6b73ffffffff0100f2052a0100000043410467"
-    "8afdb0fe5548271967f1a67130b7105cd6a828e03909a67962e0ea1f61deb649f6bc3f4cef38c4f35504e51ec112de5c384df7ba0b8d578a4c702b6bf11d5fac00000000")
-GENESIS_BLOCK = wire.read("block", GENESIS_TEXT)
-
-
-def good(name, data):
-    """The item of a known command's payload."""
+def item_of(front, payload):
+    """The item of a message."""
+    name = wire.command_of(front, payload)
+    if name not in wire.READERS:
+        return ("damaged" if name is None else "unknown",)
     try:
-        return "good", name, wire.read(name, data)
+        return "good", name, wire.read(name, payload)
     except Fault:
         return ("bad",)
 
@@ -505,27 +468,16 @@ class Line:
     """The bytes of one connection, and the session that they are for."""
 
     def __init__(self, session):
-        self.session, self.stream = session, b""
+        self.session, self.stream = session, wire.Stream()
 
     def hear(self, piece):
         """What is answered to more bytes, item by item."""
-        self.stream += piece
-        while len(self.stream) >= 24:
-            size = struct.unpack("<I", self.stream[16:20])[0]
-            if self.stream[:4] != MAGIC or size > 4_000_000:
-                raise Closed("BadStream")
-            if len(self.stream) < 24 + size:
-                return
-            front, payload = self.stream[:24], self.stream[24 : 24 + size]
-            self.stream = self.stream[24 + size :]
-            yield self.session.item(item_of(front, payload))
-
-
-def item_of(front, payload):
-    name = front[4:16].rstrip(b"\0")
-    if hash_twice(payload)[:4] != front[20:24] or not name or not all(0x20 <= byte <= 0x7E for byte in name):
-        return ("damaged",)
-    return good(name.decode(), payload) if name.decode() in wire.KNOWN else ("unknown",)
+        self.stream.add(piece)
+        try:
+            while message := self.stream.next():
+                yield self.session.item(item_of(*message))
+        except Fault:
+            raise Closed("BadStream") from None
 
 
 def serve(reader, writer, session):
@@ -542,3 +494,9 @@ def serve(reader, writer, session):
                 writer.flush()
     except Closed as closed:
         return str(closed)
+
+
+if __name__ == "__main__":  # python3 -m bench.models.plain_session serves a connection on standard input and output, as `cbrelay serve` does
+    ended = serve(sys.stdin.buffer, sys.stdout.buffer, PlainSession(Settings(), Shared()))
+    print("closed", ended, file=sys.stderr)
+    sys.exit(0 if ended == "Bye" else 3)

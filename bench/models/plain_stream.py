@@ -1,81 +1,48 @@
 """What `decode` prints of a stream of messages, and what `serve` answers before a handshake, by docs/PROTOCOL.md.
 
-It was written apart from the program.
+It was written apart from the program. Messages are read by bench/models/plain_wire.py.
 """
 
-import struct
-
-from bench.models.plain_payload import Fault, after, after_differences, after_forms, after_tx, after_txs
-from bench.tools.messages import envelope
-from bench.tools.network import MAGIC
-from bench.tools.texts import hash_twice, shown
+from bench.models.plain_wire import Fault, command_of, envelope_at, read
+from bench.tools.basics import envelope, shown
 
 NAMES = {1: "Memory", 2: "Truncated", 3: "NotShortest", 4: "TooMany", 9: "Empty", 12: "BadMagic", 13: "Oversize", 14: "Trailing"}
 CARRIERS = ("tx", "block", "cmpctblock", "getblocktxn", "blocktxn")
+# what is printed of a payload's value: hashes, and numbers of bytes, of transactions and of differences
+PRINTED = {
+    "verack": lambda _: (),
+    "ping": lambda nonce: (nonce,),
+    "pong": lambda nonce: (nonce,),
+    "tx": lambda tx: (shown(tx.name), len(tx.text)),
+    "block": lambda block: (shown(block.header.name), len(block.txs)),
+    "cmpctblock": lambda short: (shown(short.header.name), "ids", len(short.ids), "prefilled", len(short.prefilled)),
+    "getblocktxn": lambda asked: (shown(asked[0]), len(asked[1])),
+    "blocktxn": lambda given: (shown(given[0]), len(given[1])),
+}
 
 
 def items_of(stream):
     """The items of a stream, what is left over, and the number of its fault."""
-    items = []
-    while True:
-        if len(stream) < 24:
-            return items, len(stream), None
-        if stream[:4] != MAGIC:
-            return items, 0, 12
-        length = struct.unpack("<I", stream[16:20])[0]
-        if length > 4_000_000:
-            return items, 0, 13
-        if len(stream) < 24 + length:
-            return items, len(stream), None
-        payload = stream[24 : 24 + length]
-        items.append(item_of(stream[4:16], stream[20:24], payload))
-        stream = stream[24 + length :]
+    items, place = [], 0
+    try:
+        while found := envelope_at(stream, place):
+            front, payload, place = found
+            items.append(item_of(command_of(front, payload), payload))
+    except Fault as fault:
+        return items, 0, fault.number
+    return items, len(stream) - place, None
 
 
-def item_of(field, checksum, payload):
-    name = field.rstrip(b"\0")
-    if hash_twice(payload)[:4] != checksum:
+def item_of(name, payload):
+    """The words that are printed of a message. A payload that can't be read is told by the number of its fault."""
+    if name is None:
         return ("damaged",)
-    if not name or any(byte < 0x20 or byte > 0x7E for byte in name):
-        return ("damaged",)
-    name = name.decode("ascii")
-    if name == "verack":
-        return ("bad", name, 14) if payload else ("verack",)
-    if name in CARRIERS:
-        try:
-            return (name, *carried(name, payload))
-        except Fault as fault:
-            return ("bad", name, fault.number)
-    if name in ("ping", "pong"):
-        if len(payload) < 8:
-            return ("bad", name, 2)
-        if len(payload) > 8:
-            return ("bad", name, 14)
-        return (name, struct.unpack("<Q", payload)[0])
-    return ("unknown", name, len(payload))
-
-
-def carried(name, payload):
-    """What is printed of a transaction, a block or a compact block (BIP 152), or of what is asked of one and given: a hash, and
-    numbers of bytes or of transactions."""
-    if name == "tx":
-        place = after_tx(payload, 0)
-        told = shown(hash_twice(payload)), len(payload)
-    elif name == "block":
-        txs, place = after_txs(payload, after(payload, 0, 80))
-        told = shown(hash_twice(payload[:80])), txs
-    elif name == "cmpctblock":
-        ids, prefilled, place = after_forms(payload, after(payload, 0, 88))
-        told = shown(hash_twice(payload[:80])), "ids", ids, "prefilled", prefilled
-    elif name == "getblocktxn":
-        count, place = after_differences(payload, after(payload, 0, 32))
-        told = shown(payload[:32]), count
-    else:
-        txs, place = after_txs(payload, after(payload, 0, 32))
-        told = shown(payload[:32]), txs
-    if place < len(payload):
-        raise Fault(14)
-    return told
+    if name not in PRINTED:
+        return ("unknown", name, len(payload))
+    try:
+        return (name, *PRINTED[name](read(name, payload)))
+    except Fault as fault:
+        return ("bad", name, fault.number)
 
 
 def line_of(item):
@@ -112,7 +79,7 @@ def served(stream):
         if item[0] == "bad":
             return written, "closed BadMessage\n", 3
         if item[0] == "ping":
-            written += envelope(b"pong", struct.pack("<Q", item[1]))
+            written += envelope(b"pong", item[1].to_bytes(8, "little"))
     if fault is not None:
         return written, "closed BadStream\n", 3
     return written, "closed Bye\n", 0

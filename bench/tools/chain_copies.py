@@ -6,14 +6,14 @@ of transactions show.
 
 from typing import NamedTuple
 
-from bench.models.plain_block import Block, Tx
-from bench.tools.blocks import Sized, block_of, some_name
-from bench.tools.network import GENESIS
+from bench.models.plain_block import Block, paying
+from bench.tools.basics import GENESIS
+from bench.tools.made_blocks import Sized, block_of, some_name
 from bench.tools.records import copies, record
-from bench.tools.timed_plays import Play
+from bench.tools.turns import Play
 
 # The bytes of transactions.
-SMALL, LARGE = 60, 60_000
+SIZES = SMALL, LARGE = 60, 60_000
 
 
 class Sizes(NamedTuple):
@@ -32,7 +32,7 @@ def chain_of(blocks, size):
     """The records of a chain whose blocks have a coinbase and a transaction of this size that spends the coinbase before."""
     records, prev, spending = [], GENESIS, []
     for mark in range(blocks):
-        coinbase = Tx(mark, [], [50])
+        coinbase = paying(mark, [], [50])
         block = Block(prev, [coinbase] + spending)
         records.append(record(b"b", block.text))
         prev, spending = block.header.name, [Sized(coinbase.name, size)]

@@ -1,12 +1,20 @@
-"""Draws headers and blocks for one chain, most of which it takes, and stories of blocks that belong together."""
+"""Draws headers and blocks for one chain, most of which it takes, and stories of blocks that belong together; and plays them as records of
+bench_chain, with the lines that a plain chain wants of them."""
 
-from bench.models.plain_block import MOST_MONEY, Block, Header, Tx
+import random
+import struct
+from collections import Counter
+
+from bench.models.plain_block import MOST_MONEY, Block, Header, paying
 from bench.models.plain_chain import PlainChain, connected
-from bench.tools.blocks import NOBODY
-from bench.tools.network import GENESIS, header_text
+from bench.tools.basics import GENESIS, header_text, line
+from bench.tools.made_blocks import NOBODY
+from bench.tools.records import record
 
 # So many blocks go off in a deep reorganisation.
 DEEP = 25
+# After so many calls all that came is compared, and after so many what follows a locator and the way to a block.
+SWEEP, WAYS = 50, 8
 
 
 class Drawing:
@@ -55,7 +63,7 @@ class Drawing:
         drawn = dict(self.point(prev) for _ in range(self.rng.choice([1, 1, 2])))
         worth = max(sum(drawn.values()), 1) + (1 if self.rng.random() < 0.04 else -self.rng.choice([0, 0, 1]))
         values = [worth] if self.rng.random() < 0.6 else [worth // 2, worth - worth // 2]
-        return Tx(mark, list(drawn), values)
+        return paying(mark, list(drawn), values)
 
     def mark(self):
         self.marks += 1
@@ -64,21 +72,21 @@ class Drawing:
     def txs(self, prev):
         mark, dice = self.mark(), self.rng.randrange(60)
         if dice == 0:
-            return [Tx(mark, [], [50]), Tx(mark + 1_000_000, [], [50])]
+            return [paying(mark, [], [50]), paying(mark + 1_000_000, [], [50])]
         if dice == 1:
-            return [Tx(mark, [(NOBODY, 0)], [50])]
+            return [paying(mark, [(NOBODY, 0)], [50])]
         if dice == 2:
-            return [Tx(mark, [], [self.rng.choice([-1, MOST_MONEY + 1])])]
+            return [paying(mark, [], [self.rng.choice([-1, MOST_MONEY + 1])])]
         if dice == 3:
-            return [Tx(mark, [], [50]), Tx(mark, [self.point(prev)[0]] * 2, [50])]
+            return [paying(mark, [], [50]), paying(mark, [self.point(prev)[0]] * 2, [50])]
         if dice == 4 and self.rng.random() < 0.3:
-            return [Tx(mark, [], [50], bytes(1_000_000))]
-        first = Tx(max(mark - self.rng.randrange(6), 1) if dice < 10 else mark, [], [50])
+            return [paying(mark, [], [50], bytes(1_000_000))]
+        first = paying(max(mark - self.rng.randrange(6), 1) if dice < 10 else mark, [], [50])
         txs = [first]
         if dice >= 25:
             txs.append(self.spending(prev, mark))
         if dice >= 45:
-            txs.append(Tx(mark, [self.rng.choice(txs[-1].points())], [txs[-1].values[0]]))
+            txs.append(paying(mark, [self.rng.choice(txs[-1].points())], [txs[-1].values[0]]))
         return txs
 
     def drawn(self, block):
@@ -148,23 +156,23 @@ class Stories:
         block = self.moved(prev, unspent) if unspent and self.rng.random() < 0.3 else None
         if block is not None:
             return block
-        txs = [Tx(mark, [], [50])]
+        txs = [paying(mark, [], [50])]
         if unspent and self.rng.random() < 0.7:
             point, value = self.drawing.near(list(unspent.items()), 30)
-            txs.append(Tx(mark, [point], [value // 2, value - value // 2]))
+            txs.append(paying(mark, [point], [value // 2, value - value // 2]))
         return Block(prev, txs)
 
     def faulty(self, prev):
         """A block that can't be connected: it spends what isn't there, or the same twice, or more than there is."""
         mark, unspent = self.drawing.mark(), self.plain.unspent(prev)[0] or {}
-        first = Tx(mark, [], [50])
+        first = paying(mark, [], [50])
         spent, value = self.rng.choice([*unspent.items()][-30:] + [(first.points()[0], 50)])
         dice = self.rng.randrange(3)
         if dice == 0:
-            return Block(prev, [first, Tx(mark, [(NOBODY, mark)], [1])])
+            return Block(prev, [first, paying(mark, [(NOBODY, mark)], [1])])
         if dice == 1:
-            return Block(prev, [first, Tx(mark, [spent], [value]), Tx(mark + 1_000_000, [spent], [value])])
-        return Block(prev, [first, Tx(mark, [spent], [value + 1])])
+            return Block(prev, [first, paying(mark, [spent], [value]), paying(mark + 1_000_000, [spent], [value])])
+        return Block(prev, [first, paying(mark, [spent], [value + 1])])
 
     def raised(self, end, height):
         """Blocks on a branch until it is so high, and then its end."""
@@ -209,3 +217,91 @@ class Stories:
             yield self.whole(end)
             end = left
         self.ends.append(end)
+
+
+class ChainPlay:
+    """One chain's records, the lines that are wanted of them, and what each line is an answer to."""
+
+    def __init__(self, seed):
+        self.drawing = Drawing(random.Random(seed))
+        self.plain = self.drawing.plain
+        self.records = [record(b"t")]
+        self.wanted = []
+        self.ended = Counter()
+        self.deepest = 0
+
+    def ask(self, kind, payload, wanted):
+        self.records.append(record(kind, payload))
+        self.wanted.append(wanted)
+
+    def call(self):
+        what = self.drawing.call()
+        if isinstance(what, Header):
+            ended = self.plain.take_header(what)
+            self.ask(b"h", what.text, ended)
+            self.ended[ended] += 1
+        else:
+            self.call_block(what)
+
+    def call_block(self, block):
+        tip, marked = self.plain.tip(), len(self.plain.marked)
+        ended = self.plain.take_block(block)
+        if isinstance(ended, tuple):
+            off, on = ended
+            self.deepest = max(self.deepest, len(off))
+            self.ended["a deep reorganisation"] += len(off) >= DEEP
+            ended = "a reorganisation" if off else "a higher tip" if on else "a block aside"
+            self.ask(b"b", block.text, line("off", off) + line(" on", on))
+        else:
+            self.ask(b"b", block.text, ended)
+            is_new = len(self.plain.marked) > marked
+            self.ended["a fault beside the tip"] += is_new and block.fault() is None and block.header.prev != tip
+            self.ended["a fault below"] += len(self.plain.marked) > marked + 1
+        self.ended[ended] += 1
+
+    def ask_tip(self):
+        tip = self.plain.tip()
+        self.ask(b"i", b"", line("tip", [tip]) + f" height {self.plain.height(tip)}")
+        self.ask(b"l", b"", line("locator", self.plain.locator()))
+
+    def ask_name(self, name):
+        plain = self.plain
+        height = f"height {plain.height(name)}" if plain.is_known(name) else "unknown"
+        kept = plain.has_block(name) and name not in plain.marked
+        lacks = not plain.has_block(name) and name not in plain.marked
+        self.ask(b"n", name, line("", [name])[1:] + f" {height} kept {str(kept).lower()} lacks {str(lacks).lower()}")
+
+    def ask_values(self, points):
+        unspent = self.plain.unspent(self.plain.tip())[0]
+        for txid, index in points:
+            self.ask(b"v", txid + struct.pack("<I", index), f"value {unspent.get((txid, index), -1)}")
+
+    def ask_ways(self, names):
+        rng = self.drawing.rng
+        locator, stop = [rng.choice(names) for _ in range(rng.randrange(4))], rng.choice(names)
+        self.ask(b"f", stop + b"".join(locator), line("after", self.plain.after(locator, stop)))
+        name = rng.choice(names)
+        self.ask(b"p", name, line("path", self.plain.path(name)))
+
+    def turn(self, number):
+        """A call, and what is asked after it."""
+        self.call()
+        self.ask_tip()
+        names, points = self.drawing.names() + [NOBODY], self.drawing.points
+        if number % WAYS == WAYS - 1:
+            self.ask_ways(names)
+        sweep = number % SWEEP == SWEEP - 1
+        for name in names if sweep else names[-4:]:
+            self.ask_name(name)
+        self.ask_values(points if sweep else points[-4:])
+
+    def differences(self, ended):
+        """The first line of the program's chain that isn't what is wanted."""
+        told = ended.printed.decode("ascii", "replace").split("\n")
+        if ended.failure:
+            return [ended.failure]
+        for place, wanted in enumerate(self.wanted):
+            if place >= len(told) or told[place] != wanted:
+                asked = self.records[place + 1]
+                return [f"record {place + 1}, {asked[:1].decode()} {asked[5:85].hex()}: {told[place:place + 1]} for {wanted!r}"]
+        return []

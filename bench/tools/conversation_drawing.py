@@ -8,14 +8,12 @@ import random
 import struct
 
 from bench.models import plain_wire as wire
-from bench.models.plain_block import Block, Tx, paying
+from bench.models.plain_block import Block, paying
 from bench.models.plain_compact import WORD, differences, key_of, missing, short_id
 from bench.models.plain_hall import Shared
 from bench.models.plain_session import MOST_FLIGHT, MOST_WANTED, Closed, Line, PlainSession, Settings
+from bench.tools.basics import GENESIS, envelope, hash_twice, header_text, random_bytes
 from bench.tools.hall_drawing import tx_of_64_bytes
-from bench.tools.messages import envelope
-from bench.tools.network import GENESIS, header_text
-from bench.tools.texts import hash_twice, random_bytes
 
 LONGEST, BLOCKS = 40, 24
 NOBODY, NO_TX = bytes(32), bytes([1]) * 32
@@ -23,7 +21,13 @@ NOBODY, NO_TX = bytes(32), bytes([1]) * 32
 
 def hello(relay):
     """A version with this relay byte, which may be missing."""
-    return envelope(b"version", wire.version(Settings(nonce=7))[24:-1] + relay)
+    return wire.version(7, relay=relay)
+
+
+def differs(told, wanted):
+    """Where two outputs part."""
+    place = next((place for place, (one, other) in enumerate(zip(told, wanted)) if one != other), min(len(told), len(wanted)))
+    return f"{len(told)} bytes for {len(wanted)}, the first that differs at {place}"
 
 
 class Spoken:
@@ -75,12 +79,12 @@ class Conversation(Spoken):
         prev = GENESIS if parent is None else parent.header.name
         if self.rng.random() < 0.02:
             prev = bytes(random_bytes(self.rng, 32))
-        self.blocks.append(Block(prev, [Tx(self.mark(), [], [50]), *spent]))
+        self.blocks.append(Block(prev, [paying(self.mark(), [], [50]), *spent]))
 
     def handshake(self):
         number = self.rng.choice([70014] * 8 + [70012, 70001, 70000, 60000, 80000])
         nonce = self.rng.choice([7] * 20 + [1])
-        version = wire.version(Settings(nonce=nonce))[24:-1] + self.rng.choice([b"", b"\1", b"\1", b"\0", b"\7"])
+        version = wire.version(nonce, relay=self.rng.choice([b"", b"\1", b"\1", b"\0", b"\7"]))[24:]
         version = envelope(b"version", struct.pack("<i", number) + version[4:] + b"\7" * self.rng.randrange(2))
         parts = [version, envelope(b"verack", b"")]
         if self.rng.random() < 0.15:
@@ -125,7 +129,7 @@ class Conversation(Spoken):
         return envelope(b"block", text)
 
     def tx(self):
-        tx = self.rng.choice(self.txs) if self.txs and self.rng.random() < 0.7 else Tx(self.mark(), [], [50])
+        tx = self.rng.choice(self.txs) if self.txs and self.rng.random() < 0.7 else paying(self.mark(), [], [50])
         if self.blocks and self.rng.random() < 0.4:
             tx = paying(self.mark(), [(self.rng.choice(self.blocks).txs[0].name, 0)], [self.rng.choice([40, 50, 60])])
             self.txs.append(tx)
@@ -158,9 +162,8 @@ class Conversation(Spoken):
         """A block as a compact one, in which the transactions at these places are whole. Its ids and whole transactions may be changed."""
         nonce = self.rng.choice([0, 7, WORD, self.rng.getrandbits(64)])
         text = header or block.header.text
-        key = key_of(text, nonce)
-        self.key = key
-        ids = [short_id(key, tx.name) for place, tx in enumerate(block.txs) if place not in places]
+        self.key = key_of(text, nonce)
+        ids = [short_id(self.key, tx.name) for place, tx in enumerate(block.txs) if place not in places]
         prefilled = [(step, block.txs[place].text) for step, place in zip(differences(list(places)), places)]
         change(ids, prefilled)
         return wire.cmpctblock(text, nonce, ids, prefilled)
@@ -274,23 +277,23 @@ class Relay(Conversation):
         coins = self.coins()
         for coin in rng.sample(coins, min(len(coins), rng.randrange(4) if fresh is None else fresh)):
             txs.insert(rng.randrange(len(txs) + 1), self.paid(coin))
-        self.blocks.append(Block(prev, [Tx(self.mark(), [], [50] * rng.randrange(1, 4)), *txs]))
+        self.blocks.append(Block(prev, [paying(self.mark(), [], [50] * rng.randrange(1, 4)), *txs]))
         return self.blocks[-1]
 
     def bare(self, prev):
         """A block of a coinbase alone."""
-        self.blocks.append(Block(prev, [Tx(self.mark(), [], [50])]))
+        self.blocks.append(Block(prev, [paying(self.mark(), [], [50])]))
         return self.blocks[-1]
 
     def faulty(self, prev):
         """A block that can't be connected."""
         point, value = self.rng.choice(self.coins() or [((NO_TX, 0), 50)])
-        bad = self.rng.choice([paying(self.mark(), [(NO_TX, self.mark())], [1]), paying(self.mark(), [point], [value + 1]), Tx(self.mark(), [], [1])])
-        self.blocks.append(Block(prev, [Tx(self.mark(), [], [50]), bad]))
+        bad = self.rng.choice([paying(self.mark(), [(NO_TX, self.mark())], [1]), paying(self.mark(), [point], [value + 1]), paying(self.mark(), [], [1])])
+        self.blocks.append(Block(prev, [paying(self.mark(), [], [50]), bad]))
         return self.blocks[-1]
 
     def give(self, block):
-        self.say(envelope(b"block", block.text))
+        self.say(wire.block(block.text))
 
     # ---- turns
 
@@ -359,7 +362,7 @@ class Relay(Conversation):
         prefilled.append((WORD, prefilled[0][1]))
 
     def another_whole(self, ids, prefilled):
-        prefilled[0] = (0, Tx(self.mark(), [], [50]).text)
+        prefilled[0] = (0, paying(self.mark(), [], [50]).text)
 
     def whole_of_64_bytes(self, ids, prefilled):
         prefilled[0] = (0, tx_of_64_bytes(self.mark()).text)
@@ -376,10 +379,10 @@ class Relay(Conversation):
         right = [block.txs[place].text for place in missing(partial.slots) if place < len(block.txs)]
         if rng.random() < 0.25:
             self.say(wire.headers([rng.choice(self.blocks).header.text]))
-        wrong = [(1, name, right[1:]), (1, name, right + right[:1]), (1, name, [Tx(self.mark(), [], [50]).text] * len(right)),
+        wrong = [(1, name, right[1:]), (1, name, right + right[:1]), (1, name, [paying(self.mark(), [], [50]).text] * len(right)),
                  (1, name, right[::-1]), (1, rng.choice(self.names()), right), (1, name, None)]
         _, told, texts = rng.choices([(12, name, right), *wrong], [12, 1, 1, 1, 1, 1, 1])[0]
-        self.say(envelope(b"block", block.text) if texts is None else wire.blocktxn(told, texts))
+        self.say(wire.block(block.text) if texts is None else wire.blocktxn(told, texts))
         if texts is None or rng.random() < 0.15:
             # Nobody asks for these any more.
             self.say(wire.blocktxn(name, rng.choice([right, right[1:], right[:1] * len(right)])))
@@ -412,7 +415,7 @@ class Relay(Conversation):
         """Places of a block near the tip or deeper, or of one that isn't there."""
         rng, way = self.rng, self.known()[::-1]
         name = way[min(rng.choice([0, 1, 2, 9, 10, 11, 12]), len(way) - 1)]
-        count = 1 if name == GENESIS else len(self.session.kept(name).txs)
+        count = len(self.shared.kept(name).txs)
         places = sorted(rng.sample(range(count), rng.randrange(1, count + 1)))
         steps = differences(places)
         if rng.random() < 0.06:
@@ -476,7 +479,7 @@ class Relay(Conversation):
         above.append(self.bare(above[0].header.name))
         for _ in range(self.rng.randrange(2, 9)):
             block = self.rng.choice(above)
-            ways = [lambda: self.compact(block), lambda: wire.headers([block.header.text]), lambda: envelope(b"block", block.text),
+            ways = [lambda: self.compact(block), lambda: wire.headers([block.header.text]), lambda: wire.block(block.text),
                     lambda: wire.entries(b"inv", [(2, block.header.name)]), lambda: wire.headers([]), lambda: wire.headers([known.header.text]),
                     lambda: hello(self.rng.choice([b"\0", b"\1"]))]
             self.say(self.rng.choices(ways, [4, 2, 2, 2, 1, 1, 1])[0]())
@@ -490,7 +493,7 @@ class Relay(Conversation):
         self.say(wire.headers([block.header.text for block in blocks]))
         for _ in range(2 * len(blocks)):
             block, start = self.rng.choice(blocks), self.rng.randrange(len(blocks))
-            ways = [lambda: envelope(b"block", block.text), lambda: self.compact(block), lambda: self.compact(block, (0,), self.repeat_an_id),
+            ways = [lambda: wire.block(block.text), lambda: self.compact(block), lambda: self.compact(block, (0,), self.repeat_an_id),
                     lambda: wire.headers([it.header.text for it in blocks[start : start + 4]]), lambda: wire.headers([other.header.text])]
             self.say(self.rng.choices(ways, [4, 4, 1, 1, 1])[0]())
 

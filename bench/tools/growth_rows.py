@@ -1,47 +1,67 @@
-"""Conversations with `serve` in which a chain and its mempool change as they may: their growths are refused in turn."""
+"""Stories in which a chain and its mempool change as they may, and conversations of them with `serve`: their growths are refused in
+turn."""
 
-from bench.models.plain_block import Block, Tx, paying
-from bench.tools.network import GENESIS
-from bench.tools.relay_rows import begun, block, compact, message, tx
+from bench.models.plain_block import Block
+from bench.tools.made_blocks import Marks
+from bench.tools.relay_rows import block, compact, message, tx, worked
 
 # How many transactions wait in the pool, of which the blocks that are put off have some.
 POOL, PUT_OFF = 10, 2
-UNKNOWN = bytes([7]) * 32
 
 
-class Marks:
-    """Blocks and transactions, no two of which are alike."""
-
-    def __init__(self):
-        self.last = 0
-
-    def coinbase(self):
-        self.last += 1
-        return Tx(self.last, [], [50])
-
-    def paid(self, *names):
-        """A transaction for each of these, whose first output it spends."""
-        self.last += 1
-        return [paying(self.last, [(name, 0)], [50]) for name in names]
-
-    def on(self, prev, *spent):
-        """A block on another, with transactions that spend the first outputs of these."""
-        return Block(prev, [self.coinbase(), *self.paid(*spent)])
-
-    def branch(self, prev, count):
-        blocks = []
-        for _ in range(count):
-            blocks.append(self.on(prev))
-            prev = blocks[-1].header.name
-        return blocks
+# ---- stories; each gives what comes first, and then what is looked at
 
 
-def name_of(block):
-    return block.header.name
+def overtaking(marks):
+    """A block that extends the tip and spends, and three blocks that take the place of two."""
+    low = marks.branch(None, 2)
+    top = marks.on(low[-1], low[0].txs[0])
+    second = marks.on(top)
+    other = marks.branch(low[-1], 2)
+    return low, [top, second, *other, marks.on(other[-1], low[1].txs[0], other[0].txs[0])]
 
 
-def coin_of(block):
-    return block.txs[0].name
+def turning(marks):
+    """Faulty blocks on a side branch's ends, the tip's extension between them, and turns to the branch and back. Which are faulty comes
+    too."""
+    main, side = marks.branch(None, 2), marks.branch(None, 1)
+    side.append(marks.on(side[-1], side[0].txs[0]))
+    first = marks.faulty_on(side[-1])
+    main.append(marks.on(main[-1], main[0].txs[0]))
+    ends = [marks.on(side[-1], side[1].txs[0]), marks.on(side[-1])]
+    tried = [marks.faulty_on(end) for end in ends]
+    turn = marks.on(ends[0], ends[0].txs[0])
+    back = marks.branch(main[-1], 1)
+    back.append(marks.on(back[-1], main[2].txs[0], back[0].txs[0]))
+    again = marks.branch(turn, 2)
+    last = marks.faulty_on(again[0])
+    return [*main[:2], *side], [first, main[2], *ends, *tried, turn, *back, again[0], last, again[1]], [first, *tried, last]
+
+
+def pool_put_off(marks):
+    """Blocks that make coins, a pool that spends them, two blocks with two of the pool, two transactions that spend these, and three
+    blocks that take the place of the two."""
+    coins = marks.branch(None, POOL)
+    pool = marks.paid(*(coin.txs[0] for coin in coins))
+    off = []
+    for spent in pool[:PUT_OFF]:
+        off.append(Block((off or coins)[-1].header.name, [marks.coinbase(), spent]))
+    return coins, pool, off, marks.paid(*pool[:PUT_OFF]), marks.branch(coins[-1], PUT_OFF + 1)
+
+
+def put_off_later(marks):
+    """A block that makes a coin, two transactions of which the second spends the first, a block with the first, and two blocks that put it
+    off."""
+    first = marks.on(None)
+    [one] = marks.paid(first.txs[0])
+    [other] = marks.paid(one)
+    aside = marks.on(first)
+    return first, (one, other), Block(first.header.name, [marks.coinbase(), one]), (aside, marks.on(aside))
+
+
+# ---- conversations
+
+ROWS = []
 
 
 def whole(one):
@@ -49,70 +69,32 @@ def whole(one):
     return compact(one, ids=[], prefilled=[(0, it) for it in one.txs])
 
 
-def overtaken():
-    """A block that extends the tip and spends, and three blocks that take the place of two."""
-    row, marks = begun("overtaken", "A block at the tip, and three blocks for two."), Marks()
-    low = marks.branch(GENESIS, 2)
-    top = marks.on(name_of(low[-1]), coin_of(low[0]))
-    second = marks.on(name_of(top))
-    other = marks.branch(name_of(low[-1]), 2)
-    last = marks.on(name_of(other[-1]), coin_of(low[1]), coin_of(other[0]))
-    row.step("all of them", [block(it) for it in (*low, top, second, *other, last)])
-    return row
+@worked("A block at the tip, and three blocks for two.", rows=ROWS)
+def overtaken(row):
+    low, others = overtaking(Marks())
+    row.step("all of them", [block(it) for it in (*low, *others)])
 
 
-def faults_beside():
-    """Faulty blocks on a side branch's ends, the tip's extension between them, and turns to the branch and back."""
-    row, marks = begun("faults-beside", "Faulty blocks beside the tip, and turns to their branch and back."), Marks()
-    main = marks.branch(GENESIS, 2)
-    side = marks.branch(GENESIS, 1)
-    side.append(marks.on(name_of(side[-1]), coin_of(side[0])))
-    first = marks.on(name_of(side[-1]), UNKNOWN)
-    main.append(marks.on(name_of(main[-1]), coin_of(main[0])))
-    ends = [marks.on(name_of(side[-1]), coin_of(side[1])), marks.on(name_of(side[-1]))]
-    tried = [marks.on(name_of(end), UNKNOWN) for end in ends]
-    turn = marks.on(name_of(ends[0]), coin_of(ends[0]))
-    back = marks.branch(name_of(main[-1]), 1)
-    back.append(marks.on(name_of(back[-1]), coin_of(main[2]), coin_of(back[0])))
-    again = marks.branch(name_of(turn), 2)
-    last = marks.on(name_of(again[0]), UNKNOWN)
-    faulty = [first, *tried, last]
-    given = [*main[:2], *side, first, main[2], *ends, *tried, turn, *back, again[0], last, again[1]]
-    row.step("all of them", [whole(it) if it in faulty else block(it) for it in given])
-    return row
+@worked("Faulty blocks beside the tip, and turns to their branch and back.", rows=ROWS)
+def faults_beside(row):
+    low, others, faulty = turning(Marks())
+    row.step("all of them", [whole(it) if it in faulty else block(it) for it in (*low, *others)])
 
 
-def pool_over_a_reorganisation():
-    """Three blocks take the place of two, whose transactions stand in front of a pool then."""
-    row, marks = begun("pool-over-a-reorganisation", "Three blocks for two under a pool of ten."), Marks()
-    coins = marks.branch(GENESIS, POOL)
-    pool = marks.paid(*map(coin_of, coins))
-    fork = prev = name_of(coins[-1])
+@worked("Three blocks for two under a pool of ten.", rows=ROWS)
+def pool_over_a_reorganisation(row):
+    marks = Marks()
+    coins, pool, off, spent, others = pool_put_off(marks)
     row.step("the blocks and the pool", [*map(block, coins), *map(tx, pool)])
-    off = []
-    for spent in pool[:PUT_OFF]:
-        off.append(Block(prev, [marks.coinbase(), spent]))
-        prev = name_of(off[-1])
-    row.step("two blocks with two of the pool, and two transactions that spend these", [*map(block, off), *map(tx, marks.paid(*(it.name for it in pool[:PUT_OFF])))])
-    others = marks.branch(fork, PUT_OFF + 1)
+    row.step("two blocks with two of the pool, and two transactions that spend these", [*map(block, off), *map(tx, spent)])
     row.step("three blocks for the two", [*map(block, others)])
-    near = Block(name_of(others[-1]), [marks.coinbase(), *pool])
-    row.step("a compact block of the ten", [compact(near)])
-    return row
+    row.step("a compact block of the ten", [compact(Block(others[-1].header.name, [marks.coinbase(), *pool]))])
 
 
-def put_off_behind_a_checkpoint():
-    """A block takes a transaction from the pool. Behind large messages, before whose last the session's history begins anew, and the
-    journal with it, two blocks put it off, and its transaction comes back."""
-    row, marks = begun("put-off-behind-a-checkpoint", "A block that is put off behind a checkpoint."), Marks()
-    first = marks.on(GENESIS)
-    [one] = marks.paid(coin_of(first))
-    [other] = marks.paid(one.name)
-    second, aside = Block(name_of(first), [marks.coinbase(), one]), marks.on(name_of(first))
-    row.step("a block, two transactions, and a block with one of them", [block(first), tx(one), tx(other), block(second)])
+@worked("A block that is put off behind a checkpoint.", rows=ROWS)
+def put_off_behind_a_checkpoint(row):
+    """Large messages come between, before whose last the session's history begins anew, and the journal with it."""
+    first, txs, second, others = put_off_later(Marks())
+    row.step("a block, two transactions, and a block with one of them", [block(first), *map(tx, txs), block(second)])
     row.step("three large messages of no known command", [message("filler", bytes(4_000_000))] * 3)
-    row.step("two blocks for the one", [block(aside), block(marks.on(name_of(aside)))])
-    return row
-
-
-ROWS = [overtaken, faults_beside, pool_over_a_reorganisation, put_off_behind_a_checkpoint]
+    row.step("two blocks for the one", [*map(block, others)])

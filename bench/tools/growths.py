@@ -6,52 +6,10 @@ import subprocess
 import sys
 from typing import NamedTuple
 
-from bench.tools.programs import path_of
+from bench.tools.programs import ROOT, path_of
 
 # What the program says last on standard error where memory ran out: `serve` tells why its session ended.
 STARVED = (b"memory ran out\n", b"closed Memory\n")
-
-COUNTER = r"""
-#include <stddef.h>
-#include <stdlib.h>
-#include <sys/syscall.h>
-#include <unistd.h>
-
-extern void *__libc_malloc(size_t);
-extern void *__libc_realloc(void *, size_t);
-
-static long made = 0;
-static long bytes = 0;
-static long refused = -1;
-
-static int is_refused(size_t size) {
-    if (refused < 0) {
-        const char *text = getenv("REFUSED_GROWTH");
-        refused = text ? atol(text) : 0;
-    }
-    made = made + 1;
-    bytes = bytes + (long)size;
-    return made == refused;
-}
-
-void *malloc(size_t size) { return is_refused(size) ? NULL : __libc_malloc(size); }
-
-void *realloc(void *old, size_t size) { return is_refused(size) ? NULL : __libc_realloc(old, size); }
-
-__attribute__((destructor)) static void tell(void) {
-    static int is_told = 0;
-    long told[] = {made, bytes};
-    if (!is_told) (void)!write(9, told, sizeof told);
-    is_told = 1;
-}
-
-/* A program with threads ends so, and runs no destructor. */
-void _exit(int status) {
-    tell();
-    syscall(SYS_exit_group, status);
-    __builtin_unreachable();
-}
-"""
 
 
 class Growths(NamedTuple):
@@ -61,14 +19,16 @@ class Growths(NamedTuple):
     bytes: int
 
 
-def build(folder):
-    """Compiles the library into a folder."""
-    source = os.path.join(folder, "counter.c")
-    library = os.path.join(folder, "counter.so")
-    with open(source, "w") as file:
-        file.write(COUNTER)
-    subprocess.run(["cc", "-O1", "-shared", "-fPIC", "-o", library, source], check=True)
+def preloaded(folder, name):
+    """Compiles a source of bench/library into a folder, as a library that a program loads before the C library. Its path comes back."""
+    library = os.path.join(folder, f"{name}.so")
+    subprocess.run(["cc", "-O1", "-shared", "-fPIC", "-o", library, os.path.join(ROOT, "bench", "library", f"{name}.c")], check=True)
     return library
+
+
+def build(folder):
+    """The library that counts growths."""
+    return preloaded(folder, "counter")
 
 
 def run(command, data, library, place):

@@ -14,11 +14,11 @@ import random
 import struct
 from typing import NamedTuple
 
-from bench.models.plain_block import AnyTx, Block, Header, Tx, paying, sized
+from bench.models.plain_block import Block, Header, Tx, paying, sized
+from bench.tools.basics import GENESIS, header_text
 from bench.tools.hall_play import asked, repeated
-from bench.tools.network import GENESIS, header_text
 from bench.tools.records import record
-from bench.tools.timed_plays import Play
+from bench.tools.turns import Play
 
 
 class Sizes(NamedTuple):
@@ -97,7 +97,7 @@ def entries(sizes, rng):
 
 def inputs(sizes, rng):
     """A transaction of inputs that aren't there."""
-    plays = [beside(b"", asked("tx", AnyTx([((make(rng), 0), b"") for _ in range(sizes.inputs)], [1]))) for make in (crafted, drawn)]
+    plays = [beside(b"", asked("tx", Tx([((make(rng), 0), b"") for _ in range(sizes.inputs)], [1]))) for make in (crafted, drawn)]
     return Row(f"a transaction of {sizes.inputs:,} crafted inputs", *plays)
 
 
@@ -114,11 +114,11 @@ class Chain:
     """A chain of many transactions, and headers alone from the first block up to its height."""
 
     def __init__(self, count, txs_of_each):
-        coins = Tx(0, [], [1] * (count * txs_of_each))
+        coins = paying(0, [], [1] * (count * txs_of_each))
         blocks = [Block(GENESIS, [coins])]
         for height in range(count):
             txs = [paying(place, [(coins.name, height * txs_of_each + place)], [1]) for place in range(txs_of_each)]
-            blocks.append(Block(blocks[-1].header.name, [Tx(height + 1, [], [50])] + txs))
+            blocks.append(Block(blocks[-1].header.name, [paying(height + 1, [], [50])] + txs))
         self.tip = blocks[-1].header.name
         headers = headers_up(len(blocks))
         self.top = headers[-1].name
@@ -127,13 +127,13 @@ class Chain:
 
 def one_tx(mark, prev, works=True):
     """A block of a coinbase alone."""
-    return Block(prev, [Tx(mark, [], [50])], works)
+    return Block(prev, [paying(mark, [], [50])], works)
 
 
 def parents(sizes, rng):
     """Blocks that are refused by their headers."""
     chain = Chain(sizes.blocks, sizes.txs)
-    bad = Block(chain.tip, [Tx(1, [], [50]), paying(0, [(drawn(rng), 0)], [1])])
+    bad = Block(chain.tip, [paying(1, [], [50]), paying(0, [(drawn(rng), 0)], [1])])
     ground = chain.records + given("block", bad, False)
     unknown = Play(ground + repeated(sizes.refused, *asked("block", one_tx(0, drawn(rng)), False)), ground)
     for name, block in (("a block on a header alone", one_tx(0, chain.top)), ("a block that is known to be bad", bad),
@@ -145,7 +145,7 @@ def parents(sizes, rng):
 def touched(sizes):
     """Blocks that take one small transaction each beside a pool of large ones, or none."""
     count, outputs = sizes.pooled + sizes.small, sizes.outputs
-    coins = Tx(0, [], [outputs * count] * count)
+    coins = paying(0, [], [outputs * count] * count)
     low = Block(GENESIS, [coins])
     pool = [paying(place, [(coins.name, place)], [1] * outputs) for place in range(sizes.pooled)]
     small = [paying(place, [(coins.name, place)], [1]) for place in range(sizes.pooled, count)]
@@ -154,7 +154,7 @@ def touched(sizes):
     for taken in ([[tx] for tx in small], [[]] * sizes.small):
         calls, tip = [], low.header.name
         for height, txs in enumerate(taken):
-            block = Block(tip, [Tx(height + 1, [], [50]), *txs])
+            block = Block(tip, [paying(height + 1, [], [50]), *txs])
             tip = block.header.name
             calls.append(asked("block", block, False))
         plays.append(Play(*(ground + b"".join(repeated(times, *call) for call in calls) for times in (1, 0))))

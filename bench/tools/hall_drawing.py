@@ -3,11 +3,11 @@
 import random
 import struct
 
-from bench.models.plain_block import MOST_MONEY, NULL_POINT, AnyTx, Block, Header, Tx, paying
+from bench.models.plain_block import MOST_MONEY, NULL_POINT, Block, Header, Tx, paying
 from bench.models.plain_compact import differences, key_of, short_id
-from bench.tools.blocks import NOBODY
+from bench.tools.basics import GENESIS, header_text
 from bench.tools.chain_drawing import Drawing
-from bench.tools.network import GENESIS, header_text
+from bench.tools.made_blocks import NOBODY
 
 # Blocks aren't longer than this where calls are stored.
 SHORT = 1_500
@@ -18,7 +18,7 @@ ASKING, HIGH, EARLY = 6, 12, 100
 
 def tx_of_64_bytes(mark=0x04030201):
     """A transaction of 64 bytes."""
-    return AnyTx([((bytes([0x11]) * 32, 0), struct.pack("<I", mark))], [1], b"")
+    return Tx([((bytes([0x11]) * 32, 0), struct.pack("<I", mark))], [1], b"")
 
 
 class Calls(Drawing):
@@ -54,13 +54,13 @@ class Calls(Drawing):
         """A transaction that breaks a rule, each time another one."""
         mark, (point, value) = self.mark(), self.coin()
         script = struct.pack("<I", mark)
-        makers = [lambda: AnyTx([], [50]), lambda: AnyTx([(point, script)], []), lambda: paying(mark, [point], [-1]),
+        makers = [lambda: Tx([], [50]), lambda: Tx([(point, script)], []), lambda: paying(mark, [point], [-1]),
                   lambda: paying(mark, [point], [MOST_MONEY, 1]), lambda: paying(mark, [point, point], [1]),
-                  lambda: AnyTx([(NULL_POINT, script[:1])], [50]), lambda: AnyTx([(point, script), (NULL_POINT, script)], [1]),
-                  lambda: tx_of_64_bytes(mark), lambda: Tx(mark, [], [50]), lambda: paying(mark, [(NOBODY, mark)], [1]),
+                  lambda: Tx([(NULL_POINT, script[:1])], [50]), lambda: Tx([(point, script), (NULL_POINT, script)], [1]),
+                  lambda: tx_of_64_bytes(mark), lambda: paying(mark, [], [50]), lambda: paying(mark, [(NOBODY, mark)], [1]),
                   lambda: paying(mark, [point], [value + 1])]
         if not self.is_short:
-            makers.append(lambda: AnyTx([(point, script)], [1], bytes(1_000_000)))
+            makers.append(lambda: Tx([(point, script)], [1], bytes(1_000_000)))
         self.odd += 1
         return makers[(self.odd - 1) % len(makers)]()
 
@@ -85,7 +85,7 @@ class Calls(Drawing):
         while self.is_short and sum(len(tx.text) for tx in txs) > SHORT:
             txs = super().txs(prev)
         if pool and self.rng.random() < 0.3:
-            txs = [Tx(self.mark(), [], [50])] + pool[:self.rng.randrange(1, 4)]
+            txs = [paying(self.mark(), [], [50])] + pool[:self.rng.randrange(1, 4)]
         return txs
 
     # ---- names
@@ -129,7 +129,7 @@ class Generated:
         weights, kinds = zip(*self.kinds)
         self.calls.plain = self.calls.stories.plain = self.play.hall.now.chain
         self.rng.choices(kinds, weights)[0]()
-        self.play.look()
+        self.play.call("look")
 
     def ask(self, *question):
         """A question; a block comes from nobody that is kicked, since others build on it."""
@@ -170,11 +170,11 @@ class Generated:
             self.meet("a transaction out of the pool", before - after)
 
     def extend(self):
-        self.play.extend(self.rng.randrange(256))
+        self.play.call("extend", self.rng.randrange(256))
         self.meet("mined and handed in")
 
     def mine(self):
-        self.play.mine(self.rng.randrange(256))
+        self.play.call("mine", self.rng.randrange(256))
         self.meet("mined")
 
     def heads(self):
@@ -182,7 +182,7 @@ class Generated:
         calls = self.calls
         headers = [calls.near(calls.headers, 20) for _ in range(self.rng.randrange(4)) if calls.headers]
         if self.rng.random() < 0.7:
-            headers.append(calls.drawn(Block(self.play.hall.now.tip(), [Tx(calls.mark(), [], [50])])).header)
+            headers.append(calls.drawn(Block(self.play.hall.now.tip(), [paying(calls.mark(), [], [50])])).header)
         if self.rng.random() < 0.1:
             headers.append(Header(header_text(self.play.hall.now.tip(), NOBODY, False)))
         self.tell_heads(headers + [calls.near(calls.headers, 5)] if calls.headers else headers)
@@ -204,10 +204,10 @@ class Generated:
     def remade(self):
         """A coinbase whose output is spent comes once more, and then what spent it, and the coinbase a third time."""
         calls = self.calls
-        first, point = Tx(calls.mark(), [], [50]), None
+        first, point = paying(calls.mark(), [], [50]), None
         point = (first.name, 0)
         spending = paying(calls.mark(), [point], [50])
-        for txs in ([first], [Tx(calls.mark(), [], [50]), spending], [first]):
+        for txs in ([first], [paying(calls.mark(), [], [50]), spending], [first]):
             self.give_block(calls.drawn(Block(self.play.hall.now.tip(), txs)))
         self.meet(self.play.submit("tx", spending))
         self.give_block(calls.drawn(Block(self.play.hall.now.tip(), [first])))
@@ -218,33 +218,33 @@ class Generated:
         way = calls.plain.way(self.play.hall.now.tip())
         prev = way[max(len(way) - 1 - depth, 0)]
         for _ in range(depth + 1):
-            block = calls.drawn(Block(prev, [Tx(calls.mark(), [], [50])]))
+            block = calls.drawn(Block(prev, [paying(calls.mark(), [], [50])]))
             self.give_block(block)
             prev = block.header.name
 
     def odd_block(self):
         """A block on the tip that breaks a rule by itself, each time another one."""
         calls = self.calls
-        first, (point, _) = Tx(calls.mark(), [], [50]), calls.coin()
-        kinds = [[first, Tx(calls.mark(), [], [50])], [Tx(calls.mark(), [], [-1])], [first, paying(calls.mark(), [point, point], [1])]]
+        first, (point, _) = paying(calls.mark(), [], [50]), calls.coin()
+        kinds = [[first, paying(calls.mark(), [], [50])], [paying(calls.mark(), [], [-1])], [first, paying(calls.mark(), [point, point], [1])]]
         if not calls.is_short:
-            kinds.append([Tx(calls.mark(), [], [50], bytes(1_000_000))])
+            kinds.append([paying(calls.mark(), [], [50], bytes(1_000_000))])
         self.odd += 1
         self.give_block(calls.drawn(Block(self.play.hall.now.tip(), kinds[self.odd % len(kinds)])))
 
     def orphaned(self):
         """A block whose parent isn't there, and its header."""
-        block = self.calls.drawn(Block(NOBODY, [Tx(self.calls.mark(), [], [50])]))
+        block = self.calls.drawn(Block(NOBODY, [paying(self.calls.mark(), [], [50])]))
         self.give_block(block)
         self.tell_heads([block.header])
 
     def overspent(self):
         """A block on the tip that spends more than there is, and then a header and a block on it."""
         calls = self.calls
-        first = Tx(calls.mark(), [], [50])
+        first = paying(calls.mark(), [], [50])
         faulty = calls.drawn(Block(self.play.hall.now.tip(), [first, paying(calls.mark(), [(first.name, 0)], [51])]))
         self.give_block(faulty)
-        above = Block(faulty.header.name, [Tx(calls.mark(), [], [50])])
+        above = Block(faulty.header.name, [paying(calls.mark(), [], [50])])
         self.tell_heads([above.header])
         self.give_block(above)
 
@@ -263,7 +263,7 @@ class Generated:
         """Now and then a block is wanted alone whose header stands on the tip."""
         calls, entries = self.calls, self.calls.entries()
         if self.rng.random() < 0.4:
-            block = calls.drawn(Block(self.play.hall.now.tip(), [Tx(calls.mark(), [], [50])]))
+            block = calls.drawn(Block(self.play.hall.now.tip(), [paying(calls.mark(), [], [50])]))
             self.tell_heads([block.header])
             entries = [entry for entry in entries if entry[0] != 2] + [(2, block.header.name)]
         told = self.ask("want", entries)
@@ -306,7 +306,7 @@ class Generated:
         self.meet("pairs of several", len(told.split()) > 3)
 
     def pairs(self):
-        self.meet("pairs of a pool that was", len(self.play.last_pairs().split()) > 2)
+        self.meet("pairs of a pool that was", len(self.play.call("last_pairs").split()) > 2)
 
     def after(self):
         names = self.calls.names() + [NOBODY]
@@ -321,33 +321,33 @@ class Generated:
     # ---- peers, and the journal
 
     def kick(self):
-        self.play.kick(self.rng.randrange(ASKING))
+        self.play.call("kick", self.rng.randrange(ASKING))
 
     def open(self):
         peer, now = self.rng.randrange(ASKING), self.play.hall.now
         self.meet("an opened announcer", now.latest(peer) in now.announcers)
-        self.play.open(peer)
+        self.play.call("open", peer)
 
     def checkpoint(self):
         """Not at first, since then there is nothing to replay any more."""
         if len(self.play.hall.calls) >= EARLY:
-            self.play.checkpoint()
+            self.play.call("checkpoint")
             self.meet("a journal that begins anew")
 
     def again(self):
-        self.play.again()
+        self.play.call("again")
         self.meet("computed again")
 
     def replay(self):
-        self.meet("replayed", self.play.replay() != "replay of a part")
+        self.meet("replayed", self.play.call("replay") != "replay of a part")
 
     def counts(self):
-        self.play.counts()
+        self.play.call("counts")
 
     def repeat(self):
         """A call a few times, of which no line is printed."""
         now, calls = self.play.hall.now, self.calls
         questions = [("admit",), ("locator",), ("tx", calls.tx()), ("want", calls.entries()), ("items", calls.entries()), ("news", None, 0, False), ("match", bytes(80), 1, [2]), ("places", now.tip(), [0]),
-                     ("block", calls.drawn(Block(now.tip(), [Tx(calls.mark(), [], [50])])), True)]
+                     ("block", calls.drawn(Block(now.tip(), [paying(calls.mark(), [], [50])])), True)]
         self.play.ask_often(self.rng.randrange(4), calls.any_connection(), *self.rng.choice(questions))
         self.meet("repeated")

@@ -18,27 +18,29 @@ def numbers_text(numbers):
     return b"".join(struct.pack("<Q", number) for number in numbers)
 
 
+# the kind of each question's record, and what stands in it behind its connection
+QUESTIONS = {
+    "admit": (b"a", lambda: b""),
+    "locator": (b"l", lambda: b""),
+    "headers": (b"h", lambda headers: b"".join(header.text for header in headers)),
+    "want": (b"w", entries_text),
+    "items": (b"s", entries_text),
+    "tx": (b"t", lambda tx: tx.text),
+    "block": (b"b", lambda block, capable: bytes([capable]) + block.text),
+    "after": (b"f", lambda locator, stop: stop + b"".join(locator)),
+    "match": (b"d", lambda header, nonce, ids: header + numbers_text([nonce, *ids])),
+    "places": (b"e", lambda name, differences: name + numbers_text(differences)),
+    "news": (b"n", lambda tip, number, whole: struct.pack("<BQ", whole, number) + (tip or b"")),
+}
+# the kind of the record of each other call, and the form of what stands in it
+CALLS = {"open": (b"o", "<H"), "kick": (b"k", "<H"), "mine": (b"m", "<B"), "extend": (b"M", "<B"), "checkpoint": (b"p", ""), "look": (b"i", ""),
+         "last_pairs": (b"v", ""), "counts": (b"j", ""), "again": (b"g", ""), "replay": (b"r", "")}
+
+
 def question_text(question):
     """The kind of a question's record, and what stands behind its connection."""
-    word, *rest = question
-    if word in ("admit", "locator"):
-        return word[:1].encode(), b""
-    if word == "headers":
-        return b"h", b"".join(header.text for header in rest[0])
-    if word in ("want", "items"):
-        return b"w" if word == "want" else b"s", entries_text(rest[0])
-    if word == "tx":
-        return b"t", rest[0].text
-    if word == "block":
-        return b"b", bytes([rest[1]]) + rest[0].text
-    if word == "after":
-        return b"f", rest[1] + b"".join(rest[0])
-    if word == "match":
-        return b"d", rest[0] + numbers_text([rest[1], *rest[2]])
-    if word == "places":
-        return b"e", rest[0] + numbers_text(rest[1])
-    tip, number, whole = rest
-    return b"n", struct.pack("<BQ", whole, number) + (tip or b"")
+    kind, text = QUESTIONS[question[0]]
+    return kind, text(*question[1:])
 
 
 def asked(*question):
@@ -85,35 +87,10 @@ class HallPlay:
         question = (word, thing, False) if word == "block" else (word, thing)
         return self.put(b"B" if word == "block" else b"T", thing.text, self.hall.submit(question))
 
-    def open(self, peer):
-        return self.put(b"o", struct.pack("<H", peer), self.hall.open(peer))
-
-    def kick(self, peer):
-        return self.put(b"k", struct.pack("<H", peer), self.hall.kick(peer))
-
-    def mine(self, mark):
-        return self.put(b"m", bytes([mark]), self.hall.mine(mark))
-
-    def extend(self, mark):
-        return self.put(b"M", bytes([mark]), self.hall.extend(mark))
-
-    def checkpoint(self):
-        return self.put(b"p", b"", self.hall.checkpoint())
-
-    def look(self):
-        return self.put(b"i", b"", self.hall.look())
-
-    def last_pairs(self):
-        return self.put(b"v", b"", self.hall.last_pairs())
-
-    def counts(self):
-        return self.put(b"j", b"", self.hall.counts())
-
-    def again(self):
-        return self.put(b"g", b"", self.hall.again())
-
-    def replay(self):
-        return self.put(b"r", b"", self.hall.replay())
+    def call(self, name, *words):
+        """A call that is no question."""
+        kind, form = CALLS[name]
+        return self.put(kind, struct.pack(form, *words), getattr(self.hall, name)(*words))
 
     def lines(self):
         return self.wanted + ([f"sum {self.sum}"] if self.sum is not None else [])

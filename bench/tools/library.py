@@ -9,8 +9,7 @@ The status is 0 where all was as it should be.
 import sys
 from pathlib import Path
 
-if not __package__:  # called as a file
-    sys.path.insert(0, str(Path(__file__).resolve().parents[2]))
+sys.path.insert(0, str(Path(__file__).resolve().parents[2]))
 
 from bitcoin.core import b2lx
 

@@ -3,13 +3,10 @@
 import struct
 from pathlib import Path
 
-from bench.models.plain_block import MOST_MONEY, NULL_POINT, AnyTx, Block, sized
-from bench.models.plain_compact import differences, key_of, short_id
-from bench.models.plain_wire import KNOWN
-from bench.tools.network import GENESIS, header_text
+from bench.models.plain_block import MOST_MONEY, NULL_POINT, Block, Tx, sized
+from bench.models.plain_wire import read_all
+from bench.tools.basics import GENESIS, compact_size, header_text
 from bench.tools.programs import ROOT
-from bench.tools.stream_drawing import random_tx, random_txs, spelled
-from bench.tools.texts import compact_size, random_bytes
 
 # the genesis block of regtest, and block 170 of the main network, the first with a payment, as public sources tell them
 REGTEST_GENESIS = "0f9188f13cb7b2c71f2a335e3a4fc328bf5beb436012afca590b1a11466e2206"
@@ -24,29 +21,26 @@ SIPHASH = """
 OTHER_SCRIPT = b"x" * 9
 
 
-def from_example(name, place):
+def example(place):
     """A message's payload in an example: the first, or a later one."""
-    stream = bytes.fromhex("".join(Path(ROOT, "examples", name).read_text(encoding="ascii").split()))
-    for _ in range(place):
-        stream = stream[24 + struct.unpack("<I", stream[16:20])[0] :]
-    return stream[24 : 24 + struct.unpack("<I", stream[16:20])[0]]
+    return read_all(bytes.fromhex("".join(Path(ROOT, "examples/blocks.hex").read_text(encoding="ascii").split())))[place][1]
 
 
 def genesis():
-    return from_example("blocks.hex", 0)
+    return example(0)
 
 
 def block_170():
-    return from_example("blocks.hex", 2)
+    return example(2)
 
 
 def coinbase(mark=0):
-    return AnyTx([(NULL_POINT, struct.pack("<I", mark))], [50])
+    return Tx([(NULL_POINT, struct.pack("<I", mark))], [50])
 
 
 def spending(name, values=(1,), script=OTHER_SCRIPT):
     """A transaction that spends the first output of another."""
-    return AnyTx([((name, 0), script)], list(values))
+    return Tx([((name, 0), script)], list(values))
 
 
 def block_of(rng, count):
@@ -63,7 +57,7 @@ def blocks_with_faults(rng):
     """Blocks, each with the fault that docs/PROTOCOL.md names, as a number, with 256 times the rule of F5 on top."""
     first, others = coinbase(), [spending(rng.randbytes(32), [number]) for number in range(1, 4)]
     payment = block_170()[-275:]
-    leaf = AnyTx([((b"\x11" * 32, 0), bytes([1, 2, 3, 4]))], [1], b"")
+    leaf = Tx([((b"\x11" * 32, 0), bytes([1, 2, 3, 4]))], [1], b"")
     assert len(leaf.text) == 64
 
     def made(*txs):
@@ -88,81 +82,24 @@ def blocks_with_faults(rng):
     for tx, rule in txs_with_faults(rng):
         # one that is too long makes the block too long, which is told first
         yield f"a transaction that breaks rule {rule}", made(tx), 13 if rule == 3 else 5 + 256 * rule
-    yield "a coinbase whose script has one byte", Block(GENESIS, [AnyTx([(NULL_POINT, b"1")], [1])]).text, 5 + 256 * 7
-    yield "a coinbase whose script has 101 bytes", Block(GENESIS, [AnyTx([(NULL_POINT, bytes(101))], [1])]).text, 5 + 256 * 7
+    yield "a coinbase whose script has one byte", Block(GENESIS, [Tx([(NULL_POINT, b"1")], [1])]).text, 5 + 256 * 7
+    yield "a coinbase whose script has 101 bytes", Block(GENESIS, [Tx([(NULL_POINT, bytes(101))], [1])]).text, 5 + 256 * 7
 
 
 def txs_with_faults(rng):
     """Transactions, each with the number of the first rule that it breaks; those of coinbases are left to blocks."""
     name = rng.randbytes(32)
-    yield AnyTx([], [1]), 1
-    yield AnyTx([((name, 0), OTHER_SCRIPT)], []), 2
-    yield AnyTx([((name, 0), bytes(1_000_001))], [1]), 3
+    yield Tx([], [1]), 1
+    yield Tx([((name, 0), OTHER_SCRIPT)], []), 2
+    yield Tx([((name, 0), bytes(1_000_001))], [1]), 3
     yield spending(name, [-1]), 4
     yield spending(name, [MOST_MONEY + 1]), 4
     yield spending(name, [MOST_MONEY, 1]), 5
-    yield AnyTx([((name, 0), OTHER_SCRIPT), ((name, 0), b"")], [1]), 6
-    yield AnyTx([((name, 0), OTHER_SCRIPT), (NULL_POINT, b"")], [1]), 8
+    yield Tx([((name, 0), OTHER_SCRIPT), ((name, 0), b"")], [1]), 6
+    yield Tx([((name, 0), OTHER_SCRIPT), (NULL_POINT, b"")], [1]), 8
 
 
 # ---- payloads
-
-
-def hashes(rng, most):
-    return [rng.randbytes(32) for _ in range(rng.randrange(most))]
-
-
-def drawn_version(rng):
-    agent = rng.randbytes(rng.choice([0, 11, 256, 257]))
-    text = struct.pack("<iQq", rng.randrange(-5, 80_000), rng.getrandbits(64), rng.getrandbits(62)) + rng.randbytes(60) + compact_size(len(agent)) + agent
-    return text + struct.pack("<i", rng.randrange(-3, 800_000)) + rng.choice([b"", b"\0", b"\1", b"\2 more"])
-
-
-def drawn_entries(rng):
-    listed = hashes(rng, 5)
-    return spelled(rng, len(listed)) + b"".join(struct.pack("<I", rng.choice([1, 2, 4, 0x40000001])) + it for it in listed)
-
-
-def drawn_headers(rng):
-    count = rng.randrange(4)
-    return spelled(rng, count) + b"".join(rng.randbytes(80) + rng.choice([b"\0", b"\0", b"\0", b"\1", b"\xfd\0\0"]) for _ in range(count))
-
-
-def drawn_locator(rng):
-    locator = hashes(rng, 4)
-    return rng.randbytes(4) + spelled(rng, len(locator)) + b"".join(locator) + rng.randbytes(32)
-
-
-def drawn_forms(rng):
-    ids, prefilled = rng.randrange(5), rng.randrange(3)
-    whole = b"".join(spelled(rng, rng.randrange(4)) + random_tx(rng) for _ in range(prefilled))
-    return rng.randbytes(88) + spelled(rng, ids) + rng.randbytes(6 * ids) + spelled(rng, prefilled) + whole
-
-
-def drawn_differences(rng):
-    count = rng.randrange(5)
-    return rng.randbytes(32) + spelled(rng, count) + b"".join(spelled(rng, rng.choice([0, 1, 300, rng.getrandbits(64)])) for _ in range(count))
-
-
-DRAWN = {
-    "version": drawn_version,
-    "verack": lambda rng: b"",
-    "sendheaders": lambda rng: b"",
-    "ping": lambda rng: rng.randbytes(8),
-    "pong": lambda rng: rng.randbytes(8),
-    "sendcmpct": lambda rng: bytes([rng.randrange(3)]) + rng.randbytes(8),
-    "inv": drawn_entries,
-    "getdata": drawn_entries,
-    "notfound": drawn_entries,
-    "headers": drawn_headers,
-    "getheaders": drawn_locator,
-    "tx": random_tx,
-    "block": lambda rng: rng.randbytes(80) + random_txs(rng),
-    "cmpctblock": drawn_forms,
-    "getblocktxn": drawn_differences,
-    "blocktxn": lambda rng: rng.randbytes(32) + random_txs(rng),
-}
-assert set(DRAWN) == set(KNOWN)
 
 
 def counts_at_limits():
@@ -184,33 +121,3 @@ def counts_at_limits():
     yield "cmpctblock", form + b"\0\0", 9
     for size, fault in ((256, 0), (257, 4)):
         yield "version", bytes(80) + compact_size(size) + bytes(size + 5), fault
-
-
-def changed(rng, text):
-    """Bytes with one change, cut short, or with more behind them; or as they are."""
-    change = rng.randrange(6)
-    if change == 0 and text:
-        return text[: rng.randrange(len(text))]
-    if change == 1:
-        return text + random_bytes(rng, rng.randrange(1, 4))
-    if change in (2, 3) and text:
-        place = rng.randrange(len(text))
-        return text[:place] + bytes([rng.choice([0, 1, 252, 253, 254, 255, text[place] ^ 1])]) + text[place + 1 :]
-    return text
-
-
-# ---- compact blocks
-
-
-def form_of(block, nonce, places=(0,)):
-    """The payload of the `cmpctblock` of a block in which these places are prefilled."""
-    key = key_of(block.header.text, nonce)
-    ids = [short_id(key, tx.name) for place, tx in enumerate(block.txs) if place not in places]
-    whole = b"".join(compact_size(step) + block.txs[place].text for step, place in zip(differences(list(places)), places))
-    short = compact_size(len(ids)) + b"".join(it.to_bytes(6, "little") for it in ids)
-    return block.header.text + struct.pack("<Q", nonce) + short + compact_size(len(places)) + whole
-
-
-def listed(texts):
-    """Transactions behind their count."""
-    return compact_size(len(texts)) + b"".join(texts)

@@ -7,7 +7,7 @@ written and read as blocks without transactions, by the library's own reader and
 import contextlib
 import io
 import select
-import socket
+from collections import Counter
 
 import bitcoin
 import bitcoin.messages
@@ -17,12 +17,14 @@ from bitcoin.core.script import OP_TRUE, CScript
 from bitcoin.messages import MsgSerializable, msg_block, msg_getdata, msg_getheaders, msg_inv, msg_ping, msg_tx, msg_verack, msg_version
 from bitcoin.net import CInv
 
+from bench.tools.process_talk import connected
+
 bitcoin.SelectParams("regtest")
 
 # regtest's bits, the target that they stand for, and the subsidy
 BITS, TARGET, SUBSIDY = 0x207F_FFFF, 0x7F_FFFF << (8 * 29), 5_000_000_000
 VERSION, NONCE, TX, BLOCK = 70014, 0x1B2A, 1, 2
-TIME = 1_296_688_602
+TIME, MOST_HEADERS = 1_296_688_602, 2_000
 REGTEST_GENESIS = lx("0f9188f13cb7b2c71f2a335e3a4fc328bf5beb436012afca590b1a11466e2206")
 AGENT = b"/python-bitcoinlib/"
 
@@ -159,6 +161,19 @@ class LibraryPeer:
         self.ask_headers(*names)
         return self.expect(b"headers").headers
 
+    def hand_over(self, blocks):
+        """Tells the headers of blocks, and gives what is asked for, until all are given. How many were asked for at once comes back."""
+        by_name, counts = {block.GetHash(): block for block in blocks}, []
+        self.tell_headers(blocks)
+        while sum(counts) < len(blocks):
+            asked = self.asked()
+            if {kind for kind, _ in asked} != {BLOCK}:
+                raise Unexpected(f"{asked} for blocks")
+            for _, name in asked:
+                self.give_block(by_name[name])
+            counts.append(len(asked))
+        return counts
+
     def tell_headers(self, blocks):
         told = Headers()
         told.headers = [bare(block) for block in blocks]
@@ -176,10 +191,42 @@ class LibraryPeer:
 
 
 def dialled(port, seconds, host="127.0.0.1"):
-    """A peer that dialled a node on this machine, from this address. Small writes aren't held back."""
-    stream = socket.create_connection(("127.0.0.1", port), seconds, (host, 0))
-    stream.setsockopt(socket.IPPROTO_TCP, socket.TCP_NODELAY, 1)
-    return LibraryPeer(stream)
+    """A peer that dialled a node on this machine, from this address."""
+    return LibraryPeer(connected(port, seconds, host))
+
+
+class Offering:
+    """A chain that a peer offers. It answers each request for headers and blocks, and counts what it is asked for and what it tells."""
+
+    def __init__(self, peer, blocks=()):
+        self.peer, self.kept, self.asked, self.headers, self.questions, self.given, self.last = peer, {}, Counter(), 0, 0, 0, None
+        self.turn_to(blocks)
+
+    def turn_to(self, blocks):
+        """From now on this is its best chain. It keeps the blocks of the other."""
+        self.blocks, self.places = list(blocks), {block.GetHash(): place for place, block in enumerate(blocks)}
+        self.kept.update({block.GetHash(): block for block in blocks})
+
+    def tell(self, blocks):
+        self.headers += len(blocks)
+        self.peer.tell_headers(blocks)
+
+    def after(self, locator):
+        """The blocks behind the first hash that is on its chain, or behind the first block of all, at most 2,000."""
+        start = next((self.places[name] + 1 for name in locator if name in self.places), 0)
+        return self.blocks[start : start + MOST_HEADERS]
+
+    def answer(self):
+        """Answers one message."""
+        message = self.peer.receive()
+        if message.command == b"getheaders":
+            self.questions += 1
+            self.tell(self.after(message.locator.vHave))
+        elif message.command == b"getdata":
+            for entry in message.inv:
+                self.asked[entry.hash] += 1
+                self.peer.give_block(self.kept[entry.hash])
+                self.given, self.last = self.given + 1, entry.hash
 
 
 def entry_of(kind, name):

@@ -4,7 +4,7 @@ import time
 from contextlib import ExitStack
 
 from bench.models import plain_wire as wire
-from bench.models.plain_compact import differences, key_of, short_id
+from bench.models.plain_compact import differences
 from bench.tools.between import Between
 from bench.tools.plain_peer import dialled
 from bench.tools.process_talk import NodeProcess
@@ -26,7 +26,7 @@ class NodeLine:
                 address = self.links[-1].address
             dials = ["--connect", address] if address else []
             self.nodes.append(self.stack.enter_context(NodeProcess(program, *dials, *words, seconds=PATIENCE)))
-            address = self.nodes[-1].address()
+            address = self.nodes[-1].at
             self.ports.append(int(address.rpartition(":")[2]))
 
     def __enter__(self):
@@ -77,13 +77,6 @@ class NodeLine:
     def ends(self):
         """A peer of the first, which knows compact blocks, and one of the last, which wants them unasked."""
         return self.peer(0, wire.sendcmpct(0, 1)), self.peer(-1, wire.sendcmpct(1, 1))
-
-
-def short_form(block, nonce=7):
-    """A block as a compact one, whose first transaction is whole."""
-    key = key_of(block.header.text, nonce)
-    ids = [short_id(key, tx.name) for tx in block.txs[1:]]
-    return wire.cmpctblock(block.header.text, nonce, ids, [(0, block.txs[0].text)])
 
 
 def places_asked(block, missing):

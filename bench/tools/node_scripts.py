@@ -4,30 +4,17 @@ A script is played beside a plain model of what its nodes know. Where the order 
 model tells both.
 """
 
-import struct
 from collections import Counter
 
-from bench.models.plain_block import NULL_POINT, AnyTx, Block, MinedBlock, paying
-from bench.tools.network import GENESIS
+from bench.models.plain_block import Block, paying
+from bench.tools.basics import GENESIS
+from bench.tools.made_blocks import GIVEN, coinbase, mined
 
 # The first slot with which a node connects.
 OUTBOUND = 32
-SUBSIDY = 5_000_000_000
-# The mark of blocks that no node mined.
-GIVEN = 200
 # A transaction of 64 bytes.
 SIZE_64 = "0100000001" + "11" * 32 + "000000000401020304ffffffff010100000000000000" + "00" * 5
 SHAPES = ("line", "ring", "star", "tree")
-
-
-def coinbase(height, mark):
-    """The coinbase of a block that is mined at this height with this mark."""
-    return AnyTx([(NULL_POINT, struct.pack("<I", height) + bytes([mark]))], [SUBSIDY])
-
-
-def mined(prev, height, mark, txs=()):
-    """A block as a node mines it."""
-    return MinedBlock(prev, height, [coinbase(height, mark), *txs])
 
 
 def edges(rng, shape, count):

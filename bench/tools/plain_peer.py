@@ -1,19 +1,14 @@
 """A peer that talks to a process `cbrelay node` by bench's plain reader and writer of messages."""
 
 import select
-import socket
-import struct
 
 from bench.models import plain_wire as wire
 from bench.models.plain_compact import differences, indexes, key_of, missing, short_id, slots
-from bench.models.plain_session import Settings, good
-from bench.tools.messages import envelope
-from bench.tools.network import MAGIC
-from bench.tools.texts import hash_twice
+from bench.tools.basics import envelope
+from bench.tools.process_talk import connected
 
-TX, BLOCK, COMPACT = 1, 2, 4
 NONCE = 0x5EED
-HELLO = wire.version(Settings(nonce=NONCE)) + envelope(b"verack", b"")
+HELLO = wire.version(NONCE) + envelope(b"verack", b"")
 # What a node tells by itself after a handshake.
 USUAL = ("sendheaders", "sendcmpct", "getheaders")
 
@@ -22,7 +17,7 @@ class PlainPeer:
     """A connection to a node."""
 
     def __init__(self, stream):
-        self.stream, self.held = stream, b""
+        self.stream, self.messages = stream, wire.Stream()
 
     def __enter__(self):
         return self
@@ -37,28 +32,22 @@ class PlainPeer:
         """Takes what has come. Fails at the stream's end."""
         piece = self.stream.recv(1 << 20)
         if not piece:
-            raise ValueError(f"the node ended the connection; {len(self.held)} bytes are held")
-        self.held += piece
+            raise ValueError(f"the node ended the connection; {len(self.messages.left())} bytes are held")
+        self.messages.add(piece)
 
     def receive(self):
         """The next message: its name and its value."""
         name, payload = self.receive_payload()
-        return name, good(name, payload)[2]
+        return name, wire.read(name, payload)
 
     def receive_payload(self):
         """The next message: its name and its payload."""
-        while len(self.held) < 24 or len(self.held) < 24 + self.length():
+        while not (message := self.messages.next()):
             self.more()
-        end = 24 + self.length()
-        front, payload, self.held = self.held[:24], self.held[24:end], self.held[end:]
-        name = front[4:16].rstrip(b"\0").decode()
-        if front[:4] != MAGIC or hash_twice(payload)[:4] != front[20:]:
-            raise ValueError(f"a damaged {name}")
-        return name, payload
-
-    def length(self):
-        """The length of the payload whose front came."""
-        return struct.unpack("<I", self.held[16:20])[0]
+        name = wire.command_of(*message)
+        if name is None:
+            raise ValueError(f"a damaged {message[0][4:16]}")
+        return name, message[1]
 
     def expect(self, wanted, passed=USUAL):
         """The value of the next message, which has this name. Those before it that have one of these names are passed over."""
@@ -71,7 +60,7 @@ class PlainPeer:
 
     def is_quiet(self, seconds):
         """Whether nothing comes for so long."""
-        return not self.held and not select.select([self.stream], [], [], seconds)[0]
+        return not self.messages.left() and not select.select([self.stream], [], [], seconds)[0]
 
     def pass_over(self):
         """Passes over all that has come."""
@@ -85,16 +74,25 @@ class PlainPeer:
 
     def pinged(self, nonce, passed=USUAL):
         """A ping, whose pong comes behind all that was answered before."""
-        self.send(envelope(b"ping", struct.pack("<Q", nonce)))
+        self.send(wire.ping(nonce))
         return self.expect("pong", passed) == nonce
 
     # ---- compact blocks (BIP 152)
 
+    def hand_over(self, blocks):
+        """Tells the headers of blocks, and gives what is asked for, until all are given."""
+        by_name, given = {block.header.name: block for block in blocks}, 0
+        self.send(wire.headers([block.header.text for block in blocks]))
+        while given < len(blocks):
+            asked = self.expect("getdata")
+            if {kind for kind, _ in asked} != {wire.BLOCK}:
+                raise ValueError(f"{asked} for blocks")
+            self.send(*(wire.block(by_name[name].text) for _, name in asked))
+            given += len(asked)
+
     def announce(self, block, nonce, ids=None):
         """A block as a compact one, whose coinbase is whole. The bytes of the payload come back."""
-        key = key_of(block.header.text, nonce)
-        ids = ids or [short_id(key, tx.name) for tx in block.txs[1:]]
-        message = wire.cmpctblock(block.header.text, nonce, ids, [(0, block.txs[0].text)])
+        message = wire.cmpctblock(block.header.text, nonce, ids or wire.short_ids(block, nonce), [(0, block.txs[0].text)])
         self.send(message)
         return len(message) - 24
 
@@ -119,7 +117,5 @@ class PlainPeer:
 
 
 def dialled(port, seconds=60):
-    """A peer that dialled a node on this machine. Small writes aren't held back."""
-    stream = socket.create_connection(("127.0.0.1", port), seconds)
-    stream.setsockopt(socket.IPPROTO_TCP, socket.TCP_NODELAY, 1)
-    return PlainPeer(stream)
+    """A peer that dialled a node on this machine."""
+    return PlainPeer(connected(port, seconds))

@@ -1,5 +1,6 @@
-"""Where built programs are, their stored runs, and runs of them in checked builds."""
+"""Where built programs are, their stored runs, and runs of them in checked builds; and the words that a script is called with."""
 
+import argparse
 import os
 import sys
 from pathlib import Path
@@ -8,18 +9,8 @@ ROOT = str(Path(__file__).resolve().parents[2])
 sys.path.insert(0, os.path.join(ROOT, "scripts"))
 
 from checked import Case, run_checked
-from stored_runs import read_run
-
-
-def folder_of(crate, top=ROOT):
-    """Where a program stands below this folder: in bench/programs, or among the crates."""
-    apart = os.path.join(top, "bench/programs", crate)
-    return apart if os.path.isdir(apart) else os.path.join(top, "crates", crate)
-
-
-def path_of(crate, top=ROOT):
-    """Where ./build leaves a program below this folder."""
-    return os.path.join(folder_of(crate, top), "out", crate)
+from repository import folder_of, path_of
+from stored_runs import difference, read_run
 
 
 def built(path, crate, top=ROOT):
@@ -30,18 +21,11 @@ def built(path, crate, top=ROOT):
     return path
 
 
-def written(path, *parts):
-    """Writes these bytes into a file, one part behind the other. The path comes back."""
-    with open(path, "wb") as file:
-        for part in parts:
-            file.write(part)
-    return path
-
-
 def stored_cases(program):
     """The stored runs of a program of bench/programs: that beside its sources, and those of runs/."""
-    folder = Path(folder_of(program))
-    cases = [Case("stored", (folder / "stdin").read_bytes(), (folder / "stdout").read_bytes())]
+    folder = folder_of(program)
+    status = int((folder / "status").read_text(encoding="ascii")) if (folder / "status").is_file() else 0
+    cases = [Case("stored", (folder / "stdin").read_bytes(), (folder / "stdout").read_bytes(), status)]
     for path in sorted(Path(ROOT, "runs", program).glob("*.run")):
         run = read_run(path)
         cases.append(Case(path.stem, run.given, run.printed, run.status))
@@ -51,8 +35,14 @@ def stored_cases(program):
 def write_stored_run(crate, records, lines):
     """Writes a program's stored run: its input, and what it has to print."""
     folder = folder_of(crate)
-    with open(os.path.join(folder, "stdin"), "wb") as file:
-        file.write(b"".join(records))
-    with open(os.path.join(folder, "stdout"), "w", encoding="ascii") as file:
-        file.write("\n".join(lines) + "\n")
+    (folder / "stdin").write_bytes(b"".join(records))
+    (folder / "stdout").write_text("\n".join(lines) + "\n", encoding="ascii")
     print(f"{len(records)} records, {len(lines)} lines")
+
+
+def usage(doc, **arguments):
+    """A reader of the command line: `--help` prints the script's own text. Each argument has its help."""
+    parser = argparse.ArgumentParser(description=doc, formatter_class=argparse.RawDescriptionHelpFormatter)
+    for name, text in arguments.items():
+        parser.add_argument(name, nargs="?", help=text)
+    return parser

@@ -4,23 +4,22 @@ What is told was worked out by hand from the rules in docs/PROTOCOL.md. bench/lo
 writes them as stored runs of cbrelay (runs/cbrelay/serve-*.run) and as an example (examples/relay.bin).
 """
 
+import functools
 import struct
 import textwrap
 from dataclasses import dataclass, field
 from types import SimpleNamespace
 
-from bench.models.plain_block import NULL_POINT, AnyTx, Block, MinedBlock
+from bench.models.plain_block import Block, Tx
 from bench.models.plain_compact import WORD, key_of, short_id
-from bench.models.plain_wire import spelled
-from bench.tools.blocks import NOBODY
+from bench.models.plain_wire import BLOCK, COMPACT, TX, spelled
+from bench.tools import made_blocks
+from bench.tools.basics import GENESIS, compact_size, envelope, hash_twice
 from bench.tools.hall_drawing import tx_of_64_bytes
-from bench.tools.messages import envelope
-from bench.tools.network import GENESIS
-from bench.tools.texts import compact_size, hash_twice
+from bench.tools.made_blocks import NOBODY, SUBSIDY
 
 NONCE = 0x0102_0304_0506_0708
 COIN = 625_000_000
-TX, BLOCK, COMPACT = 1, 2, 4
 
 
 @dataclass
@@ -137,15 +136,14 @@ def blocktxn(block, *txs):
 # ---- blocks
 
 
-def mined(height, prev, outputs=(5_000_000_000,), txs=(), mark=0):
+def mined(height, prev, outputs=(SUBSIDY,), txs=(), mark=0):
     """A block of this height. Its coinbase has the height and a mark in its script."""
-    coinbase = AnyTx([(NULL_POINT, u32(height) + bytes([mark]))], list(outputs))
-    return MinedBlock(prev, height, [coinbase, *txs])
+    return made_blocks.mined(prev, height, mark, txs, outputs)
 
 
 def spending(made, index, value=COIN):
     """A transaction that spends an output."""
-    return AnyTx([((made.name, index), b"")], [value])
+    return Tx([((made.name, index), b"")], [value])
 
 
 FIRST = mined(1, GENESIS, [COIN] * 8)
@@ -161,14 +159,14 @@ def on_first(*txs, mark=0):
 
 
 def raised(count, mark=0):
-    """So many blocks, each of a coinbase."""
-    blocks = []
-    for height in range(1, count + 1):
-        blocks.append(mined(height, blocks[-1].header.name if blocks else GENESIS, mark=mark))
-    return blocks
+    return made_blocks.raised(count, mark)
 
 
 # ---- rows
+
+
+# rows of compact blocks; rows with other names, since few compact blocks are in them; and those that are too long to be stored
+ROWS, OF_SESSIONS, OTHERS = [], [], []
 
 
 def begun(name, remark, wish=None, relay=b"\1"):
@@ -186,20 +184,47 @@ def given_first(row, is_capable=False):
     row.step("block 1, whose coinbase has eight outputs", [block(FIRST)], [sendcmpct(1)] if is_capable else [])
 
 
-def repeated_ids():
-    row = begun("repeated-ids", "A compact block with two equal short ids is of no use: its block is asked for whole.")
-    given_first(row)
+def two_lack(row):
+    """Of the block of nine the mempool has all but the places 0, 2 and 7. Place 0 comes whole, so two are missing."""
+    for place in (3, 1, 8, 4, 6, 5):
+        row.step(f"the transaction of place {place}", [tx(COINS[place - 1])])
+    request = message("getblocktxn", NINE.header.name, b"\2", b"\2", b"\4")
+    assert len(b"".join(request.parts)) == 35
+    row.step("a block of nine, place 0 whole: `getblocktxn` of the places 2 and 7, in 35 bytes", [compact(NINE)], [request])
+
+
+def worked(remark, wish=None, relay=b"\1", first=False, nine=False, why="Bye", rows=ROWS):
+    """Lists a row: the steps that a function adds to a handshake, to the first block, and to a block of nine that lacks two. Its name is
+    the function's."""
+    def listed(add):
+        @functools.wraps(add)
+        def made():
+            row = begun(add.__name__.replace("_", "-"), remark, wish, relay)
+            if first or nine:
+                given_first(row, wish is not None)
+            if nine:
+                two_lack(row)
+            add(row)
+            row.why = why
+            return row
+
+        rows.append(made)
+        return made
+
+    return listed
+
+
+@worked("A compact block with two equal short ids is of no use: its block is asked for whole.", first=True)
+def repeated_ids(row):
     two = on_first(*COINS[:2])
     row.step("a block of three, with the id of its place 1 twice: `getdata` of type 2", [compact(two, ids=[id_of(two, NONCE, COINS[0])] * 2)],
              [getdata(BLOCK, two.header.name)])
     row.step("the block", [block(two)])
     row.step("the headers behind the first block: both are there", [getheaders(GENESIS)], [headers(FIRST, two)])
-    return row
 
 
-def wrong_list():
-    row = begun("wrong-list", "All places of a compact block are filled, but its header is of other transactions: the block is asked for whole.")
-    given_first(row)
+@worked("All places of a compact block are filled, but its header is of other transactions: the block is asked for whole.", first=True)
+def wrong_list(row):
     row.step("a transaction", [tx(COINS[1])])
     two = on_first(COINS[0])
     row.step("a block of two, place 0 whole, with the id of the mempool's transaction at place 1: `getdata` of type 2",
@@ -207,48 +232,31 @@ def wrong_list():
     row.step("a `ping`: the session goes on", [ping(5)], [pong(5)])
     row.step("the block", [block(two)])
     row.step("the headers behind the first block", [getheaders(GENESIS)], [headers(FIRST, two)])
-    return row
 
 
-def begun_with_nine(name, remark):
-    """Of the block of nine the mempool has all but the places 0, 2 and 7. Place 0 comes whole, so two are missing."""
-    row = begun(name, remark)
-    given_first(row)
-    for place in (3, 1, 8, 4, 6, 5):
-        row.step(f"the transaction of place {place}", [tx(COINS[place - 1])])
-    request = message("getblocktxn", NINE.header.name, b"\2", b"\2", b"\4")
-    assert len(b"".join(request.parts)) == 35
-    row.step("a block of nine, place 0 whole: `getblocktxn` of the places 2 and 7, in 35 bytes", [compact(NINE)], [request])
-    return row
-
-
-def two_missing():
-    row = begun_with_nine("two-missing", "A compact block of nine, of which two transactions are missing.")
+@worked("A compact block of nine, of which two transactions are missing.", nine=True)
+def two_missing(row):
     row.step("both, in order", [blocktxn(NINE, COINS[1], COINS[6])])
     row.step("the block is there", [getdata(BLOCK, NINE.header.name)], [block(NINE)])
-    return row
 
 
-def one_of_two():
-    row = begun_with_nine("one-of-two", "One transaction where two are missing closes with BadMessage.")
+@worked("One transaction where two are missing closes with BadMessage.", nine=True, why="BadMessage")
+def one_of_two(row):
     row.step("the first alone", [blocktxn(NINE, COINS[1])])
     row.step("a `ping` that isn't read any more", [ping(5)])
-    row.why = "BadMessage"
-    return row
 
 
-def exchanged():
-    row = begun_with_nine("exchanged", "The missing transactions in the wrong order make a wrong list: the block is asked for whole.")
+@worked("The missing transactions in the wrong order make a wrong list: the block is asked for whole.", nine=True)
+def exchanged(row):
     row.step("both, the second first", [blocktxn(NINE, COINS[6], COINS[1])], [getdata(BLOCK, NINE.header.name)])
     row.step("both in order, for which nobody asks any more", [blocktxn(NINE, COINS[1], COINS[6])])
     row.step("the block isn't there", [getdata(BLOCK, NINE.header.name)], [message("notfound", b"\1", u32(BLOCK), NINE.header.name)])
     row.step("the block", [block(NINE)])
     row.step("the block is there", [getdata(BLOCK, NINE.header.name)], [block(NINE)])
-    return row
 
 
-def depths():
-    row = begun("depths", "Compact blocks are sent down to 5 below the tip, transactions of a block down to 10 below; deeper the whole block.")
+@worked("Compact blocks are sent down to 5 below the tip, transactions of a block down to 10 below; deeper the whole block.")
+def depths(row):
     blocks = raised(12)
     row.step("twelve blocks", [block(one) for one in blocks])
     at = {height: blocks[height - 1] for height in range(1, 13)}
@@ -261,20 +269,16 @@ def depths():
     row.step("no place of the tip: no transaction", [getblocktxn(at[12])], [blocktxn(at[12])])
     row.step("a block that isn't there, as a compact block and by its place: one `notfound`",
              [getdata(COMPACT, NOBODY), message("getblocktxn", NOBODY, b"\1", b"\0")], [message("notfound", b"\1", u32(COMPACT), NOBODY)])
-    return row
 
 
-def known():
-    row = begun("known", "A compact block of a block that is there does nothing.")
-    given_first(row)
+@worked("A compact block of a block that is there does nothing.", first=True)
+def known(row):
     row.step("block 1 as a compact block; no transaction of it is asked for", [compact(FIRST, prefilled=[], ids=[bytes([7]) * 6])])
     row.step("a `ping`", [ping(5)], [pong(5)])
-    return row
 
 
-def replaced():
-    row = begun("replaced", "A second compact block with missing transactions takes the place of the first.")
-    given_first(row)
+@worked("A second compact block with missing transactions takes the place of the first.", first=True)
+def replaced(row):
     one, other = on_first(COINS[0], mark=1), on_first(COINS[1], COINS[2], mark=2)
     row.step("a block of two, of which place 1 is missing", [compact(one)], [getblocktxn(one, 1)])
     row.step("a block of three, of which the places 1 and 2 are missing", [compact(other)], [getblocktxn(other, 1, 0)])
@@ -282,23 +286,19 @@ def replaced():
     row.step("what the second one lacks", [blocktxn(other, COINS[1], COINS[2])])
     row.step("the second is there, the first isn't", [getdata(BLOCK, other.header.name, one.header.name)],
              [block(other), message("notfound", b"\1", u32(BLOCK), one.header.name)])
-    return row
 
 
-def dropped():
-    row = begun("dropped", "A block that comes whole isn't rebuilt any more: transactions of it do nothing, as many as they are.")
-    given_first(row)
+@worked("A block that comes whole isn't rebuilt any more: transactions of it do nothing, as many as they are.", first=True)
+def dropped(row):
     two = on_first(COINS[0])
     row.step("a block of two, of which place 1 is missing", [compact(two)], [getblocktxn(two, 1)])
     row.step("the whole block, and no transaction of it", [block(two), blocktxn(two)])
     row.step("a `ping`: the session goes on", [ping(5)], [pong(5)])
-    return row
 
 
-def two_pairs():
+@worked("Two transactions of the mempool have the short id of a place: none of them is taken, and the place is missing.", first=True)
+def two_pairs(row):
     """The two transactions were sought for: two spend the first block's outputs 0 and 1, and have one short id under this header and nonce."""
-    row = begun("two-pairs", "Two transactions of the mempool have the short id of a place: none of them is taken, and the place is missing.")
-    given_first(row)
     pair = [at_lock_time(0, 1_022_448), at_lock_time(1, 772_265)]
     two = on_first(COINS[2])
     shared = bytes.fromhex("c2e404bea1bc")
@@ -307,7 +307,6 @@ def two_pairs():
     row.step("a block of two, with their id at its place 1: `getblocktxn` of it", [compact(two, ids=[shared])], [getblocktxn(two, 1)])
     row.step("the transaction", [blocktxn(two, COINS[2])])
     row.step("the block is there", [getdata(BLOCK, two.header.name)], [block(two)])
-    return row
 
 
 def at_lock_time(index, lock_time):
@@ -323,32 +322,28 @@ def in_two_parts(row, remark, last, known, told):
              [getblocktxn(last, 0), *told])
 
 
-def told_ways():
-    row = begun("told-ways", "A way of eight headers to a new tip is told by headers, a way of nine by the tip's hash.")
+@worked("A way of eight headers to a new tip is told by headers, a way of nine by the tip's hash.")
+def told_ways(row):
     seven, eight, nine = raised(7), raised(8, 1), raised(9, 2)
     row.step("`sendheaders`, and seven blocks", [message("sendheaders"), *map(block, seven)])
     row.step("seven blocks beside them", map(block, eight[:7]))
     in_two_parts(row, "an eighth on these: eight headers", eight[7], seven[0], [headers(*eight)])
     row.step("eight others", map(block, nine[:8]))
     in_two_parts(row, "a ninth on these: its hash", nine[8], seven[0], [inv(BLOCK, nine[8].header.name)])
-    return row
 
 
-def told_in_order():
-    row = begun("told-in-order", "A new tip is told first, then transactions that came back to the mempool, then the wish for compact blocks unasked.")
-    given_first(row)
+@worked("A new tip is told first, then transactions that came back to the mempool, then the wish for compact blocks unasked.", first=True)
+def told_in_order(row):
     row.step("block 2 with a transaction, and `sendcmpct`", [block(on_first(COINS[0])), sendcmpct(1)])
     two = on_first(mark=1)
     row.step("another block 2, which stays aside", [block(two)])
     three = mined(3, two.header.name)
     in_two_parts(row, "block 3 on it: the way has two headers, so the tip is told by its hash", three, FIRST,
                  [inv(BLOCK, three.header.name), inv(TX, COINS[0].name), sendcmpct(1)])
-    return row
 
 
-def told_unasked():
-    row = begun("told-unasked", "A peer that wants compact blocks unasked is told a new tip so, each under the next nonce.", 1)
-    given_first(row, True)
+@worked("A peer that wants compact blocks unasked is told a new tip so, each under the next nonce.", wish=1, first=True)
+def told_unasked(row):
     two = on_first(COINS[0], COINS[1])
     row.step("a block of three, of which the places 1 and 2 are missing", [compact(two)], [getblocktxn(two, 1, 0)])
     row.step("the first header, which is now the last one heard of", [headers(FIRST)])
@@ -356,34 +351,29 @@ def told_unasked():
     three = mined(3, two.header.name, txs=[COINS[2]])
     row.step("the same with the next block, which has the nonce 1", [compact(three), headers(FIRST), blocktxn(three, COINS[2])],
              [getblocktxn(three, 1), compact(three, 1)])
-    return row
 
 
-def told_no_longer():
-    row = begun("told-no-longer", "A peer that wants compact blocks unasked no longer is told a new tip by its hash. It still knows compact blocks.", 1)
-    given_first(row, True)
+@worked("A peer that wants compact blocks unasked no longer is told a new tip by its hash. It still knows compact blocks.", wish=1, first=True)
+def told_no_longer(row):
     two = on_first()
     row.step("`sendcmpct` with the flag 0", [sendcmpct(0)])
     in_two_parts(row, "block 2, while another header is heard of", two, FIRST, [inv(BLOCK, two.header.name)])
     three = mined(3, two.header.name)
     row.step("the header of block 3: `getdata` of type 4", [headers(three)], [getdata(COMPACT, three.header.name)])
-    return row
 
 
-def told_if_asked():
-    row = begun("told-if-asked", "A peer that doesn't want compact blocks unasked is told a new tip by its hash, and by headers once it asks for these.", 0)
-    given_first(row, True)
+@worked("A peer that doesn't want compact blocks unasked is told a new tip by its hash, and by headers once it asks for these.", wish=0, first=True)
+def told_if_asked(row):
     two = on_first(COINS[0])
     row.step("a block of two, of which place 1 is missing, while another header is heard of", [compact(two), headers(FIRST), blocktxn(two, COINS[0])],
              [getblocktxn(two, 1), inv(BLOCK, two.header.name)])
     three = mined(3, two.header.name, txs=[COINS[1]])
     row.step("the same behind `sendheaders`", [message("sendheaders"), compact(three), headers(FIRST), blocktxn(three, COINS[1])],
              [getblocktxn(three, 1), headers(three)])
-    return row
 
 
-def another_version():
-    row = begun("another-version", "A peer that knows another version of compact blocks alone is neither told nor asked by them.")
+@worked("A peer that knows another version of compact blocks alone is neither told nor asked by them.")
+def another_version(row):
     row.step("`sendcmpct` of version 2, unasked", [sendcmpct(1, 2)])
     given_first(row)
     two = on_first(COINS[0])
@@ -392,12 +382,10 @@ def another_version():
     three = mined(3, two.header.name, txs=[COINS[1]])
     row.step("a block of two, of which place 1 is missing, while another header is heard of: the new tip is told by its hash",
              [compact(three), headers(FIRST), blocktxn(three, COINS[1])], [getblocktxn(three, 1), inv(BLOCK, three.header.name)])
-    return row
 
 
-def near_the_tip():
-    row = begun("near-the-tip", "One block on the tip is asked for as a compact one; two are asked for whole.", 0)
-    given_first(row, True)
+@worked("One block on the tip is asked for as a compact one; two are asked for whole.", wish=0, first=True)
+def near_the_tip(row):
     two = on_first(COINS[0])
     row.step("the transaction of place 1", [tx(COINS[0])])
     row.step("the header of a block on the tip: `getdata` of type 4", [headers(two)], [getdata(COMPACT, two.header.name)])
@@ -407,86 +395,65 @@ def near_the_tip():
     row.step("the headers of the next two: `getdata` of type 2", [headers(three, four)], [getdata(BLOCK, three.header.name, four.header.name)])
     row.step("the first as a compact block, the second whole", [compact(three), block(four)])
     row.step("the headers behind the first block: all four", [getheaders(GENESIS)], [headers(FIRST, two, three, four)])
-    return row
 
 
-def no_such_place():
-    row = begun("no-such-place", "A whole transaction behind the end of a compact block closes with BadMessage.")
+@worked("A whole transaction behind the end of a compact block closes with BadMessage.", why="BadMessage")
+def no_such_place(row):
     row.step("the place 2 of a block of two", [compact(on_first(COINS[0]), prefilled=[(2, COINS[0])])])
-    row.why = "BadMessage"
-    return row
 
 
-def no_such_request():
-    row = begun("no-such-request", "A request for a place that the block doesn't have closes with BadRequest.")
-    given_first(row)
+@worked("A request for a place that the block doesn't have closes with BadRequest.", first=True, why="BadRequest")
+def no_such_request(row):
     row.step("place 0 of block 1", [getblocktxn(FIRST, 0)], [blocktxn(FIRST, FIRST.txs[0])])
     row.step("place 1, which it doesn't have", [getblocktxn(FIRST, 1)])
-    row.why = "BadRequest"
-    return row
 
 
-def no_such_request_below():
-    row = begun("no-such-request-below", "A request for a place that the block does not have closes with BadRequest deep below the tip too.")
+@worked("A request for a place that the block does not have closes with BadRequest deep below the tip too.", why="BadRequest")
+def no_such_request_below(row):
     blocks = raised(12)
     row.step("twelve blocks", map(block, blocks))
     row.step("place 1 of height 1, which has one transaction", [getblocktxn(blocks[0], 1)])
-    row.why = "BadRequest"
-    return row
 
 
-def place_past_64_bits():
-    row = begun("place-past-64-bits", "A whole transaction whose difference leads past 64 bits closes with BadMessage.")
+@worked("A whole transaction whose difference leads past 64 bits closes with BadMessage.", why="BadMessage")
+def place_past_64_bits(row):
     two = on_first(COINS[0])
     row.step("the place 0, and the difference 2^64 - 1", [compact(two, ids=[], prefilled=[(0, two.txs[0]), (WORD, COINS[0])])])
-    row.why = "BadMessage"
-    return row
 
 
-def request_past_64_bits():
-    row = begun("request-past-64-bits", "A request whose difference leads past 64 bits closes with BadRequest.")
-    given_first(row)
+@worked("A request whose difference leads past 64 bits closes with BadRequest.", first=True, why="BadRequest")
+def request_past_64_bits(row):
     row.step("the place 0 of block 1, and the difference 2^64 - 1", [getblocktxn(FIRST, 0, WORD)])
-    row.why = "BadRequest"
-    return row
 
 
-def whole_of_64_bytes():
-    row = begun("whole-of-64-bytes", "A list with a transaction of 64 bytes isn't sound, though it has the header's root (CVE-2017-12842). As a "
-                "compact block it is only asked for whole; as a block it closes with BadBlock.")
-    given_first(row)
+@worked("A list with a transaction of 64 bytes isn't sound, though it has the header's root (CVE-2017-12842). As a "
+                "compact block it is only asked for whole; as a block it closes with BadBlock.", first=True, why="BadBlock")
+def whole_of_64_bytes(row):
     bad = on_first(tx_of_64_bytes())
     assert len(bad.txs[1].text) == 64
     row.step("all of it whole: `getdata` of type 2", [compact(bad, ids=[], prefilled=[(0, bad.txs[0]), (0, bad.txs[1])])], [getdata(BLOCK, bad.header.name)])
     row.step("a `ping`: the session goes on", [ping(5)], [pong(5)])
     row.step("the block", [block(bad)])
-    row.why = "BadBlock"
-    return row
 
 
-def nobody_asked():
-    row = begun("nobody-asked", "Transactions of a block that nobody asked for do nothing.")
-    given_first(row)
+@worked("Transactions of a block that nobody asked for do nothing.", first=True)
+def nobody_asked(row):
     row.step("of a block that is there, of one that isn't, and none at all", [blocktxn(FIRST, FIRST.txs[0]), blocktxn(NINE, *COINS), blocktxn(NINE)])
     row.step("a `ping`: the session goes on", [ping(5)], [pong(5)])
     row.step("the block isn't there", [getdata(BLOCK, NINE.header.name)], [message("notfound", b"\1", u32(BLOCK), NINE.header.name)])
-    return row
 
 
-def not_held_against():
-    row = begun("not-held-against", "A block that was rebuilt and can't be connected isn't held against its sender.")
-    given_first(row)
+@worked("A block that was rebuilt and can't be connected isn't held against its sender.", first=True)
+def not_held_against(row):
     bad = on_first(spending(FIRST.txs[0], 8))
     row.step("a block that spends a ninth output of block 1, all of it whole", [compact(bad, ids=[], prefilled=[(0, bad.txs[0]), (0, bad.txs[1])])])
     row.step("the same again: its header is refused", [compact(bad)])
     row.step("a block on it", [compact(mined(3, bad.header.name))])
     row.step("the headers behind the first block: block 1 alone", [getheaders(GENESIS)], [headers(FIRST)])
-    return row
 
 
-def unknown_parent():
-    row = begun("unknown-parent", "A compact block on an unknown one leads to a request for headers. It isn't rebuilt.")
-    given_first(row)
+@worked("A compact block on an unknown one leads to a request for headers. It isn't rebuilt.", first=True)
+def unknown_parent(row):
     two = on_first(COINS[0])
     three = mined(3, two.header.name)
     row.step("block 3, of which all is whole: `getheaders` behind block 1", [compact(three)], [getheaders(FIRST.header.name, GENESIS)])
@@ -495,7 +462,6 @@ def unknown_parent():
     row.step("block 2: block 3 is asked for again", [block(two)], [getdata(BLOCK, three.header.name)])
     row.step("block 3 as a compact block", [compact(three)])
     row.step("the headers behind the first block", [getheaders(GENESIS)], [headers(FIRST, two, three)])
-    return row
 
 
 def on_an_unknown_one(count):
@@ -506,9 +472,8 @@ def on_an_unknown_one(count):
     return blocks
 
 
-def asked_once():
-    row = begun("asked-once", "Headers are asked for once, in whatever way unknown blocks are told. Empty `headers` let them be asked for again.")
-    given_first(row)
+@worked("Headers are asked for once, in whatever way unknown blocks are told. Empty `headers` let them be asked for again.", first=True, rows=OF_SESSIONS)
+def asked_once(row):
     two, three, four, five = on_an_unknown_one(4)
     behind_first = getheaders(FIRST.header.name, GENESIS)
     row.step("block 3 as a compact block, on an unknown one: `getheaders` behind block 1", [compact(three)], [behind_first])
@@ -519,12 +484,10 @@ def asked_once():
     row.step("the headers that are asked for", [headers(two, three, four, five)], [getdata(BLOCK, *(one.header.name for one in (two, three, four, five)))])
     row.step("the blocks", map(block, (two, three, four, five)))
     row.step("the headers behind the first block: all are there", [getheaders(GENESIS)], [headers(FIRST, two, three, four, five)])
-    return row
 
 
-def asked_again():
-    row = begun("asked-again", "Headers of a known parent let headers be asked for again; those of an unknown one don't.")
-    given_first(row)
+@worked("Headers of a known parent let headers be asked for again; those of an unknown one don't.", first=True, rows=OF_SESSIONS)
+def asked_again(row):
     two, three, four, five = on_an_unknown_one(4)
     behind_first = getheaders(FIRST.header.name, GENESIS)
     row.step("block 3 as a compact block, on an unknown one: `getheaders` behind block 1", [compact(three)], [behind_first])
@@ -535,11 +498,10 @@ def asked_again():
     row.step("the header of block 5 again: `getheaders`", [headers(five)], [behind_first])
     row.step("block 2", [block(two)])
     row.step("the headers behind it: all three are asked for", [headers(three, four, five)], [getdata(BLOCK, *(one.header.name for one in (three, four, five)))])
-    return row
 
 
-def parents_first():
-    row = begun("parents-first", "A block that comes before its parent waits, and what is listed again stands last: so parents are asked for first.")
+@worked("A block that comes before its parent waits, and what is listed again stands last: so parents are asked for first.", rows=OF_SESSIONS)
+def parents_first(row):
     one, two, three, four = raised(4)
     names = [it.header.name for it in (one, two, three, four)]
     other = mined(1, GENESIS, mark=1)
@@ -551,7 +513,6 @@ def parents_first():
              [getdata(BLOCK, other.header.name, *names[1:])])
     row.step("these blocks", map(block, (other, two, three, four)))
     row.step("the headers behind the network's first block: all four", [getheaders(GENESIS)], [headers(one, two, three, four)])
-    return row
 
 
 def put_back(row):
@@ -562,24 +523,22 @@ def put_back(row):
     return [block(other), block(mined(3, other.header.name))]
 
 
-def no_transactions():
-    row = begun("no-transactions", "A peer whose first `version` has the relay byte 0 isn't told of transactions. One that it asks for is sent.", relay=b"\0")
+@worked("A peer whose first `version` has the relay byte 0 isn't told of transactions. One that it asks for is sent.", relay=b"\0", rows=OF_SESSIONS)
+def no_transactions(row):
     blocks = put_back(row)
     row.step("another `version`, whose relay byte doesn't count", [version(7, 0, b"")])
     row.step("a longer branch: the transaction is in the mempool again, and isn't told", blocks)
     row.step("the transaction is asked for", [getdata(TX, COINS[0].name)], [tx(COINS[0])])
-    return row
 
 
-def transactions_told():
-    row = begun("transactions-told", "A peer whose `version` has no relay byte is told of transactions.", relay=b"")
+@worked("A peer whose `version` has no relay byte is told of transactions.", relay=b"", rows=OF_SESSIONS)
+def transactions_told(row):
     row.step("a longer branch: the transaction is in the mempool again, and is told", put_back(row), [inv(TX, COINS[0].name)])
     row.step("the transaction is asked for", [getdata(TX, COINS[0].name)], [tx(COINS[0])])
-    return row
 
 
-def too_many_in_flight():
-    row = begun("too-many-in-flight", "A block that can't be rebuilt is asked for again if it is in flight, and waits if 16 others are.")
+@worked("A block that can't be rebuilt is asked for again if it is in flight, and waits if 16 others are.")
+def too_many_in_flight(row):
     blocks = raised(18)
     names = [one.header.name for one in blocks]
     row.step("18 headers: 16 blocks are asked for", [headers(*blocks)], [getdata(BLOCK, *names[:16])])
@@ -590,11 +549,10 @@ def too_many_in_flight():
     row.step("another block as one: it waits too", [compact(other, ids=twice)])
     row.step("the 16 blocks: the two that are left, and the other one, are asked for", [block(one) for one in blocks[:16]],
              [getdata(BLOCK, *names[16:], other.header.name)])
-    return row
 
 
-def twenty_headers():
-    row = begun("twenty-headers", "Of 20 headers 16 blocks are asked for, and behind the sixteenth the other four. None is told back to its sender.")
+@worked("Of 20 headers 16 blocks are asked for, and behind the sixteenth the other four. None is told back to its sender.", rows=OTHERS)
+def twenty_headers(row):
     blocks = raised(20)
     names = [one.header.name for one in blocks]
     row.step("20 headers", [headers(*blocks)], [getdata(BLOCK, *names[:16])])
@@ -602,33 +560,30 @@ def twenty_headers():
     row.step("the sixteenth", [block(blocks[15])], [getdata(BLOCK, *names[16:])])
     row.step("the other four", [block(one) for one in blocks[16:]])
     row.step("the headers behind the network's first block: all 20", [getheaders(GENESIS)], [headers(*blocks)])
-    return row
 
 
-def behind_a_checkpoint():
+@worked("The block that is being rebuilt stays, though the session's history begins anew.", nine=True, rows=OTHERS)
+def behind_a_checkpoint(row):
     """Large messages between a compact block and its missing transactions: before the last of them the session's history begins anew."""
-    row = begun_with_nine("behind-a-checkpoint", "The block that is being rebuilt stays, though the session's history begins anew.")
     row.step("two large messages of no known command", [message("filler", bytes(4_000_000))] * 2)
     row.step("what is missing", [blocktxn(NINE, COINS[1], COINS[6])])
     row.step("the block is there", [getdata(BLOCK, NINE.header.name)], [block(NINE)])
-    return row
 
 
-def asked_often():
+@worked("The block that is being rebuilt stays, though answers let the session's history begin anew.", nine=True, rows=OTHERS)
+def asked_often(row):
     """Twelve times the same compact block: an answer of the mempool counts for 16,666 entries of 40 bytes in the session's history."""
-    row = begun_with_nine("asked-often", "The block that is being rebuilt stays, though answers let the session's history begin anew.")
     request = message("getblocktxn", NINE.header.name, b"\2", b"\2", b"\4")
     assert 12 * (64 + 40 * 16_666) > 8_000_000
     row.step("the compact block eleven times more: each asks for what is missing", [compact(NINE)] * 11, [request] * 11)
     row.step("what is missing, before which the history begins anew", [blocktxn(NINE, COINS[1], COINS[6])])
     row.step("the block is there", [getdata(BLOCK, NINE.header.name)], [block(NINE)])
-    return row
 
 
-def far_apart():
-    row = begun("far-apart", "Counts and differences above 252: of a block of 300 transactions the places 3 and 290 are missing.")
-    fan = AnyTx([((FIRST.txs[0].name, 0), b"")], [COIN // 300] * 298)
-    txs = [fan] + [AnyTx([((fan.name, index), b"")], [COIN // 300]) for index in range(298)]
+@worked("Counts and differences above 252: of a block of 300 transactions the places 3 and 290 are missing.", rows=OTHERS)
+def far_apart(row):
+    fan = Tx([((FIRST.txs[0].name, 0), b"")], [COIN // 300] * 298)
+    txs = [fan] + [Tx([((fan.name, index), b"")], [COIN // 300]) for index in range(298)]
     given_first(row)
     row.step("all but these two", [tx(txs[place - 1]) for place in range(1, 300) if place not in (3, 290)])
     large = on_first(*txs)
@@ -637,25 +592,22 @@ def far_apart():
     row.step("both", [blocktxn(large, txs[2], txs[289])])
     row.step("the block asked back as a compact one, and its places 3 and 290", [getdata(COMPACT, large.header.name), request],
              [compact(large, 0), blocktxn(large, txs[2], txs[289])])
-    return row
 
 
-def a_header_without_work():
-    row = begun("a-header-without-work", "Of 2,000 headers the one at place 1,000, counted from 0, has no work. It closes with BadBlock.")
+@worked("Of 2,000 headers the one at place 1,000, counted from 0, has no work. It closes with BadBlock.", rows=OTHERS, why="BadBlock")
+def a_header_without_work(row):
     blocks = raised(1_000)
     blocks.append(Block(blocks[-1].header.name, blocks[0].txs, False))
     while len(blocks) < 2_000:
         blocks.append(mined(len(blocks) + 1, blocks[-1].header.name))
     row.step("all of them", [headers(*blocks)])
     row.step("a `ping` that isn't read any more", [ping(5)])
-    row.why = "BadBlock"
-    return row
 
 
-def relay():
+@worked("Compact blocks both ways: one is rebuilt at once, one lacks two transactions, one can't be rebuilt, and two are "
+                "asked back. A part of a payload stands by itself: counts, hashes, ids, indexes, headers, transactions.", wish=1)
+def relay(row):
     """The conversation of examples/relay.bin."""
-    row = begun("relay", "Compact blocks both ways: one is rebuilt at once, one lacks two transactions, one can't be rebuilt, and two are "
-                "asked back. A part of a payload stands by itself: counts, hashes, ids, indexes, headers, transactions.", 1)
     row.step("Block 1 comes whole. Its coinbase pays eight outputs. Its sender knows compact blocks and gave a tip, so it is asked to send "
              "them unasked. The tip isn't told back to it.", [block(FIRST)], [sendcmpct(1)])
     row.step("Two transactions for the mempool: T1 and T2, which spend the outputs 0 and 1. They aren't told back.", [tx(COINS[0]), tx(COINS[1])])
@@ -680,16 +632,8 @@ def relay():
              [message("getblocktxn", three.header.name, b"\2", b"\1", b"\1")], [blocktxn(three, COINS[2], COINS[4])])
     row.step("Block 4 is asked back, the second compact block that the node makes: the nonce is 1.", [getdata(COMPACT, four.header.name)],
              [compact(four, 1)])
-    return row
 
 
-ROWS = [repeated_ids, wrong_list, two_missing, one_of_two, exchanged, depths, known, replaced, dropped, two_pairs, told_ways, told_in_order,
-        told_unasked, told_no_longer, told_if_asked, another_version, near_the_tip, no_such_place, no_such_request, no_such_request_below,
-        place_past_64_bits, request_past_64_bits, whole_of_64_bytes, nobody_asked, not_held_against, unknown_parent, too_many_in_flight, relay]
-# These have other names: few compact blocks are in them.
-OF_SESSIONS = [asked_once, asked_again, parents_first, no_transactions, transactions_told]
-# These are too long to be stored.
-OTHERS = [twenty_headers, behind_a_checkpoint, asked_often, far_apart, a_header_without_work]
 
 
 # ---- as stored runs

@@ -1,9 +1,10 @@
 """Peers of a process `cbrelay node` that are strangers: whether their connections last, and an address that dials and dials."""
 
 import select
-import socket
 import threading
 import time
+
+from bench.tools.process_talk import connected
 
 # What is told of a peer's agent: Bitcoin Core's SAFE_CHARS_DEFAULT (util/strencodings.cpp).
 SAFE = "ABCDEFGHIJKLMNOPQRSTUVWXYZabcdefghijklmnopqrstuvwxyz0123456789 .,;-_/:?@()"
@@ -43,12 +44,6 @@ def trickles(stream, text, pause, most):
     return None
 
 
-def let_in_and_refused(node):
-    """How many connections a node had in all, and how many it closed at once, as `stats` tells."""
-    words = node.say("stats").split()
-    return int(words[words.index("connections") + 1]), int(words[words.index("refused") + 1])
-
-
 class Dialler:
     """An address that dials a node so many times a second, and holds its connections or closes each at once."""
 
@@ -62,7 +57,7 @@ class Dialler:
         began = time.monotonic()
         for number in range(count):
             time.sleep(max(0, began + number / self.rate - time.monotonic()))
-            stream = socket.create_connection(("127.0.0.1", self.port), PATIENCE, (self.host, 0))
+            stream = connected(self.port, PATIENCE, self.host)
             self.streams.append(stream)
             if not self.holds:
                 stream.close()

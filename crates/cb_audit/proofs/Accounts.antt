@@ -6,7 +6,7 @@ use Rattle.std.proofs.lemmas.List.Elements.{filter-append}
 use Rattle.std.proofs.lemmas.Option.{get_or_from_slice_get, slice_get_within}
 use Rattle.cb_state.specs.declared.connection.Connection.{Connection}
 use Rattle.cb_state.specs.Announcers.{same_connection}
-use Rattle.cb_journal.specs.Connections.{Slots}
+use Rattle.cb_hall.specs.Connections.{Slots}
 use Rattle.cb_peer_state.specs.Event.{is_told, kind_of}
 use Rattle.cb_trace.specs.declared.trace.Counts.{Counts}
 use Rattle.cb_trace.specs.declared.trace.TraceEntry.{TraceEntry}

@@ -3,15 +3,15 @@ use Rattle.std.proofs.Common.{◌≡◌, ◌∙◌, ℕ, ◌+◌, ◌<◌, ◌�
 use Rattle.std.proofs.lemmas.List.{append-nil, drop_all, drop_more, length-append}
 use Rattle.cb_state.specs.declared.connection.Connection.{Connection}
 use Rattle.cb_state.specs.Announcers.{same_connection}
-use Rattle.cb_journal.specs.declared.answer.Answer.{Answer}
-use Rattle.cb_journal.specs.declared.question.Question.{Question}
-use Rattle.cb_journal.specs.declared.entry.Entry.{Entry}
-use Rattle.cb_journal.specs.declared.entry.Entry.TheVariants.{Asked, Kick, Opened, Submitted}
-use Rattle.cb_journal.specs.Connections.{AreCounted, Slots}
-use Rattle.cb_journal.specs.Journal.{IsPast, JournalState}
-use Rattle.cb_journal.specs.Replica.{IsFit, Leads, ReplicaState, Steps, heard}
-use Rattle.cb_journal.proofs.Leading.{leads_length, leads_one, leads_then, step_fit}
-use Rattle.cb_journal.proofs.Once.{one_step}
+use Rattle.cb_hall.specs.declared.answer.Answer.{Answer}
+use Rattle.cb_hall.specs.declared.question.Question.{Question}
+use Rattle.cb_hall.specs.declared.entry.Entry.{Entry}
+use Rattle.cb_hall.specs.declared.entry.Entry.TheVariants.{Asked, Kick, Opened, Submitted}
+use Rattle.cb_hall.specs.Connections.{AreCounted, Slots}
+use Rattle.cb_hall.specs.Journal.{IsPast, JournalState}
+use Rattle.cb_hall.specs.Replica.{IsFit, Leads, ReplicaState, Steps, heard}
+use Rattle.cb_hall.proofs.Leading.{leads_length, leads_one, leads_then, step_fit}
+use Rattle.cb_hall.proofs.Once.{one_step}
 use Rattle.cb_audit.specs.declared.heard.Difference.{Difference}
 use Rattle.cb_audit.specs.declared.heard.Heard.{Heard}
 use Rattle.cb_audit.specs.declared.place.Place.{Place}

@@ -4,15 +4,15 @@ use Rattle.std.specs.Prelude.{◌⊎◌, IfSome, MatchOption, get_or, option_and
 use Rattle.std.specs.Option.{option_map_or}
 use Rattle.std.proofs.lemmas.Option.{slice_get_read, slice_get_within}
 use Rattle.cb_state.specs.declared.connection.Connection.{Connection}
-use Rattle.cb_journal.specs.declared.answer.Answer.{Answer}
-use Rattle.cb_journal.specs.declared.connections.Connected.{Connected}
-use Rattle.cb_journal.specs.declared.entry.Entry.{Entry}
-use Rattle.cb_journal.specs.declared.entry.Entry.TheVariants.{Asked, Kick, Opened, Submitted}
-use Rattle.cb_journal.specs.Connections.{AreCounted, Slots, connected_at, connected_of, latest_of, most_peers}
-use Rattle.cb_journal.specs.Journal.{IsPast}
-use Rattle.cb_journal.specs.Replica.{Leads, ReplicaState, opening, slots_after}
-use Rattle.cb_journal.proofs.Leading.{step_slots}
-use Rattle.cb_journal.proofs.Slots.{length_changed, length_first}
+use Rattle.cb_hall.specs.declared.answer.Answer.{Answer}
+use Rattle.cb_hall.specs.declared.connections.Connected.{Connected}
+use Rattle.cb_hall.specs.declared.entry.Entry.{Entry}
+use Rattle.cb_hall.specs.declared.entry.Entry.TheVariants.{Asked, Kick, Opened, Submitted}
+use Rattle.cb_hall.specs.Connections.{AreCounted, Slots, connected_at, connected_of, latest_of, most_peers}
+use Rattle.cb_hall.specs.Journal.{IsPast}
+use Rattle.cb_hall.specs.Replica.{Leads, ReplicaState, opening, slots_after}
+use Rattle.cb_hall.proofs.Leading.{step_slots}
+use Rattle.cb_hall.proofs.Slots.{length_changed, length_first}
 use Rattle.cb_audit.specs.Counting.{AreEven, AreOfAll, HasTrace, IsEarlier, IsEven, IsFirstAmong, IsFirstUneven, IsFoundAmong, IsOfPeer, IsOfPeers, granted, told_by}
 use Rattle.cb_audit.specs.Order.{AreInOrder, AuditedTrace, IsBefore, trace_of}
 use Rattle.cb_audit.proofs.Orders.{before_not, before_other, before_trans, has_or_not, less}

@@ -3,7 +3,7 @@ use Rattle.std.proofs.Common.{◌≡◌, ◌∙◌, ◌≢◌, ℕ, zero, suc, �
 use Rattle.std.specs.Prelude.{is_some, slice_get}
 use Rattle.std.proofs.lemmas.List.{drop-append-le, drop_all, length-drop, take-append-le, take_all, take_at}
 use Rattle.std.proofs.lemmas.Option.{slice_get_past}
-use Rattle.cb_journal.specs.Connections.{Slots}
+use Rattle.cb_hall.specs.Connections.{Slots}
 use Rattle.cb_audit.specs.Comparing.{EndsAt, HasCome, IsCome, PartsAt, first_place}
 use Rattle.cb_audit.specs.Counting.{granted}
 use Rattle.cb_audit.specs.Heard.{skip_of, start_of}

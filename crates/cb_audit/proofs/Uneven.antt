@@ -5,7 +5,7 @@ use Rattle.std.proofs.lemmas.Bool.Decides.{nat_tests}
 use Rattle.cb_state.specs.declared.connection.Connection.{Connection}
 use Rattle.cb_state.specs.Announcers.{same_connection}
 use Rattle.cb_crew.specs.Desk.{DeskState}
-use Rattle.cb_journal.specs.Connections.{Slots}
+use Rattle.cb_hall.specs.Connections.{Slots}
 use Rattle.cb_work.specs.PeerWork.{WorkState}
 use Rattle.cb_trace.specs.Trace.{TraceView}
 use Rattle.cb_audit.specs.Counting.{HasTrace, IsEven, IsFirstAmong, IsFoundAmong, granted, told_by}

@@ -1,7 +1,7 @@
 -- Which answers are compared by a list that is made for it.
 use Rattle.std.specs.Prelude.{Bool, true, false}
-use Rattle.cb_journal.specs.declared.answer.Answer.{Answer}
-use Rattle.cb_journal.specs.declared.answer.Answer.TheVariants as answer
+use Rattle.cb_hall.specs.declared.answer.Answer.{Answer}
+use Rattle.cb_hall.specs.declared.answer.Answer.TheVariants as answer
 
 -- The transactions that may be in a compact block (BIP 152) are a list only once they are listed.
 abbrev pub is_listed : Answer → Bool

@@ -2,9 +2,9 @@
 -- state that all peers share; the journal is the log of its calls.
 use Rattle.std.specs.Prelude.{List, Result, Ok, Err}
 use Rattle.cb_state.specs.declared.connection.Connection.{Connection}
-use Rattle.cb_journal.specs.declared.answer.Answer.{Answer}
-use Rattle.cb_journal.specs.Journal.{JournalState}
-use Rattle.cb_journal.specs.Replica.{Leads}
+use Rattle.cb_hall.specs.declared.answer.Answer.{Answer}
+use Rattle.cb_hall.specs.Journal.{JournalState}
+use Rattle.cb_hall.specs.Replica.{Leads}
 use Rattle.cb_audit.specs.declared.auditing.Split.{Split}
 use Rattle.cb_audit.specs.declared.covering.Compared.{Compared}
 use Rattle.cb_audit.specs.declared.auditing.Split.TheVariants.{Memory, Count, Differs}

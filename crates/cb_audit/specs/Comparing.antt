@@ -2,7 +2,7 @@
 -- The journal is the log of the hall's calls, a trace that of a connection's events.
 use Rattle.std.specs.Prelude.{◌≡◌, ◌≢◌, ℕ, ◌+◌, ◌-◌, ◌≤◌, ◌<◌, ◌^◌, max, List, length, drop, take, slice_get, Option, None, Some}
 use Rattle.cb_state.specs.declared.connection.Connection.{Connection}
-use Rattle.cb_journal.specs.Connections.{Slots}
+use Rattle.cb_hall.specs.Connections.{Slots}
 use Rattle.cb_trace.specs.Trace.{TraceView}
 use Rattle.cb_audit.specs.Counting.{granted, told_by}
 use Rattle.cb_audit.specs.Order.{AuditedTrace, IsBefore, trace_of}

@@ -3,7 +3,7 @@
 use Rattle.std.specs.Prelude.{◌≡◌, ◌≢◌, ◌⊎◌, ℕ, ◌<◌, ◌≤◌, List, Option, None, Some}
 use Rattle.std.specs.Option.{option_map_or}
 use Rattle.cb_state.specs.declared.connection.Connection.{Connection}
-use Rattle.cb_journal.specs.Connections.{Slots, connected_of, latest_of, most_peers}
+use Rattle.cb_hall.specs.Connections.{Slots, connected_of, latest_of, most_peers}
 use Rattle.cb_trace.specs.Trace.{TraceView}
 use Rattle.cb_audit.specs.Order.{AuditedTrace, IsBefore, IsTraceAt, trace_of}
 

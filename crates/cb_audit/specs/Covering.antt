@@ -1,7 +1,7 @@
 -- How many answers an audit compared, and how many it couldn't compare any more.
 use Rattle.std.specs.Prelude.{◌≡◌, ℕ, ◌+◌, List, length, drop, Some}
 use Rattle.std.specs.List.{sum_by}
-use Rattle.cb_journal.specs.Connections.{Slots}
+use Rattle.cb_hall.specs.Connections.{Slots}
 use Rattle.cb_audit.specs.declared.covering.Compared.{Compared}
 use Rattle.cb_audit.specs.Comparing.{Seen, first_place, journal_turns}
 use Rattle.cb_audit.specs.Heard.{start_of}

@@ -7,7 +7,7 @@ use Rattle.cb_state.specs.Announcers.{same_connection}
 use Rattle.cb_crew.specs.Desk.{DeskState}
 use Rattle.cb_crew.specs.Headline.{works_of}
 use Rattle.cb_work.specs.PeerWork.{WorkState}
-use Rattle.cb_journal.specs.Connections.{Slots}
+use Rattle.cb_hall.specs.Connections.{Slots}
 use Rattle.cb_audit.specs.Counting.{granted}
 use Rattle.cb_audit.specs.Order.{AuditedTrace}
 

@@ -2,10 +2,10 @@
 use Rattle.std.specs.Prelude.{◌≡◌, ◌≢◌, ℕ, ◌+◌, ◌-◌, List, [], ◌∷◌, ◌++◌, drop, length, slice_get, Option, None, Some, if◌then◌else◌}
 use Rattle.cb_state.specs.declared.connection.Connection.{Connection}
 use Rattle.cb_state.specs.Announcers.{same_connection}
-use Rattle.cb_journal.specs.declared.answer.Answer.{Answer}
-use Rattle.cb_journal.specs.declared.entry.Entry.{Entry}
-use Rattle.cb_journal.specs.Connections.{Slots}
-use Rattle.cb_journal.specs.Replica.{Leads, ReplicaState, Steps, heard}
+use Rattle.cb_hall.specs.declared.answer.Answer.{Answer}
+use Rattle.cb_hall.specs.declared.entry.Entry.{Entry}
+use Rattle.cb_hall.specs.Connections.{Slots}
+use Rattle.cb_hall.specs.Replica.{Leads, ReplicaState, Steps, heard}
 use Rattle.cb_audit.specs.declared.heard.Difference.{Difference}
 use Rattle.cb_audit.specs.declared.heard.Heard.{Heard}
 use Rattle.cb_audit.specs.declared.place.Place.{Place}

@@ -3,8 +3,8 @@
 ghost use Rattle.std.specs.Prelude.{◌≡◌, ◌<◌, ◌≤◌, ◌^◌, IfOk, IsOkUnless, OnOk, length, map};
 ghost use Rattle.cb_base.specs.declared.fault.Fault.TheVariants.{Memory};
 ghost use Rattle.cb_state.specs.declared.connection.Connection.{Connection};
-ghost use Rattle.cb_journal.specs.Connections.{Slots};
-ghost use Rattle.cb_journal.specs.Replica.{IsFit};
+ghost use Rattle.cb_hall.specs.Connections.{Slots};
+ghost use Rattle.cb_hall.specs.Replica.{IsFit};
 ghost use Rattle.cb_audit.specs.Audit.{Answered};
 ghost use Rattle.cb_audit.specs.Counting.{told_by};
 ghost use Rattle.cb_audit.specs.Heard.{Compares, IsSplit};
@@ -15,7 +15,7 @@ use crate::audited::Audited;
 use crate::heard::{Difference, Heard};
 use crate::turns::{Turns, all_turns};
 use cb_base::Fault;
-use cb_journal::{Entry, Journal, Replica};
+use cb_hall::{Entry, Journal, Replica};
 use std::alloc::Global;
 
 /// Applies an entry again, and compares its answer if it is a question. Fails only with

@@ -1,12 +1,12 @@
 //! Compares, for each connection, how many questions the hall granted with how many answers its
 //! trace has.
 ghost use Rattle.std.specs.Prelude.{◌≡◌, ◌↔◌, ◌≤◌, ◌^◌, IfSome, IsTrue, MatchOption, None};
-ghost use Rattle.cb_journal.specs.Connections.{most_peers};
+ghost use Rattle.cb_hall.specs.Connections.{most_peers};
 ghost use Rattle.cb_audit.specs.Counting.{AreEven, HasTrace, IsEarlier, IsEven, IsFirstUneven, IsFoundAmong, IsOfPeer, IsOfPeers, granted, told_by};
 ghost use Rattle.cb_audit.specs.Order.{AreInOrder, trace_of};
 
 use crate::audited::{Audited, find, is_before};
-use cb_journal::{Connections, Journal, PEERS};
+use cb_hall::{Connections, Journal, PEERS};
 use cb_state::Connection;
 
 /// How many questions of a connection were granted; 0 if there is no such connection.

@@ -7,7 +7,7 @@ ghost use Rattle.cb_audit.specs.Turns.{turns_in};
 
 use crate::audited::Audited;
 use crate::counting::granted;
-use cb_journal::Connections;
+use cb_hall::Connections;
 
 /// How many answers an audit compared, of all connections.
 #[derive(Clone, Copy, PartialEq, Eq)]

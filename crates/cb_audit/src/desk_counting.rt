@@ -1,16 +1,16 @@
 //! Compares, for each connection, how many questions the hall granted with how many answers the
 //! trace of its work has. No trace is listed for it, and it allocates nothing.
 ghost use Rattle.std.specs.Prelude.{◌≡◌, ◌∷◌, ◌++◌, ◌↔◌, [], None, Some, IfSome, IsTrue, MatchOption, option_copied, slice_get};
-ghost use Rattle.cb_journal.specs.Connections.{most_peers};
+ghost use Rattle.cb_hall.specs.Connections.{most_peers};
 ghost use Rattle.cb_audit.specs.Counting.{AreEven, IsEven, IsFirstUneven, IsFoundAmong, IsOfPeer, IsOfPeers};
 ghost use Rattle.cb_audit.specs.Desks.{told_in, trace_of_work, traces_of, traces_of_desk, uneven_in};
 ghost use Rattle.cb_audit.specs.Order.{AreInOrder};
 
 use crate::counting::{earlier, granted};
 use cb_crew::Desk;
-use cb_journal::{Connections, Journal, PEERS};
+use cb_hall::{Connections, Journal, PEERS};
+use cb_peer_state::MessageSink;
 use cb_state::Connection;
-use cb_talk::MessageSink;
 use cb_trace::Oracle;
 use cb_work::{Flags, PeerWork};
 

@@ -15,7 +15,7 @@ use crate::desk_counting::first_uneven_at_desks;
 use cb_base::Fault;
 use cb_crew::Desk;
 use cb_hall::Hall;
-use cb_talk::MessageSink;
+use cb_peer_state::MessageSink;
 use cb_trace::Oracle;
 use cb_work::{Flags, PeerWork};
 use std::alloc::Global;

@@ -1,6 +1,6 @@
 ghost use Rattle.std.specs.Prelude.{◌≡◌, ◌≤◌, ◌^◌, [], List, IfOk, IsOkUnless, MatchOption, OnOk, Some, drop, length, map};
 ghost use Rattle.cb_base.specs.declared.fault.Fault.TheVariants.{Memory};
-ghost use Rattle.cb_journal.specs.Connections.{Slots};
+ghost use Rattle.cb_hall.specs.Connections.{Slots};
 ghost use Rattle.cb_audit.specs.Comparing.{AreFew, HasCome, Seen};
 ghost use Rattle.cb_audit.specs.Counting.{granted};
 ghost use Rattle.cb_audit.specs.Heard.{ArePlaced, IsDifference, IsHeard, IsSplit, IsSplitWithTrace, seen_more, skip_of, start_of};
@@ -13,7 +13,7 @@ use crate::counting::{earlier, granted};
 use crate::place::Place;
 use crate::turns::{Turn, Turns};
 use cb_base::Fault;
-use cb_journal::{Answer, Connections, Question};
+use cb_hall::{Answer, Connections, Question};
 use cb_state::Connection;
 use std::alloc::Global;
 

@@ -8,7 +8,7 @@ use crate::audited::Audited;
 use crate::counting::granted;
 use crate::turns::{Turn, is_turn_at};
 use cb_base::Fault;
-use cb_journal::{Answer, Connections, Question};
+use cb_hall::{Answer, Connections, Question};
 use std::alloc::Global;
 
 /// How far the comparison of the journal with one trace is.

@@ -1,8 +1,7 @@
 //! What equality is, for single values.
 use cb_base::{Hash256, Shared};
-use cb_block::Header;
-use cb_payload::Inventory;
-use cb_tx::OutPoint;
+use cb_block::{Header, OutPoint};
+use cb_wire::Inventory;
 
 /// A value that can be compared with another one. Contracts of `==` speak of a test that may be any
 /// relation; this one is equality of what contracts see.

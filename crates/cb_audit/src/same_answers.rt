@@ -6,8 +6,8 @@ ghost use Rattle.cb_audit.specs.Answers.{is_listed};
 use crate::same::Same;
 use crate::same_lists::same_list;
 use cb_base::Fault;
-use cb_journal::Answer;
-use cb_pool::Pairs;
+use cb_compact::Pairs;
+use cb_hall::Answer;
 use cb_state::{Excerpt, Heads, Need, News, Part, Piece, Taken};
 use std::alloc::Global;
 

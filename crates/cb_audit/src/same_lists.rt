@@ -3,7 +3,7 @@ ghost use Rattle.std.specs.Prelude.{◌≡◌, ◌↔◌, IsTrue};
 
 use crate::same::Same;
 use cb_chain::Hashes;
-use cb_payload::Listed;
+use cb_wire::Listed;
 
 /// Whether both lists are the same: equally long, with the same value at each place.
 pub(crate) fn same_list<T: Same>(ours: &[T], theirs: &[T]) -> bool

@@ -1,6 +1,6 @@
 //! Equality of questions.
 use crate::same::Same;
-use cb_journal::{GivenBlock, Question, Request, Sought, Told};
+use cb_hall::{GivenBlock, Question, Request, Sought, ToldBefore};
 
 impl Same for GivenBlock {
     fn same(&self, other: &GivenBlock) -> bool {
@@ -14,8 +14,8 @@ impl Same for Sought {
     }
 }
 
-impl Same for Told {
-    fn same(&self, other: &Told) -> bool {
+impl Same for ToldBefore {
+    fn same(&self, other: &ToldBefore) -> bool {
         self.tip.same(&other.tip) && self.from == other.from && self.whole == other.whole
     }
 }

@@ -1,11 +1,10 @@
 //! Equality of transactions and blocks.
 use crate::same::Same;
 use crate::same_lists::same_list;
-use cb_block::{Block, SoundBlock};
+use cb_block::{Block, Script, SoundBlock, Tx, TxIn, TxOut};
 use cb_compact::{NamedTx, Pair};
 use cb_pool::Candidate;
 use cb_state::BoundedBlock;
-use cb_tx::{Script, Tx, TxIn, TxOut};
 
 impl Same for Script {
     fn same(&self, other: &Script) -> bool {

@@ -7,7 +7,7 @@ use crate::audited::Audited;
 use crate::same::Same;
 use crate::same_answers::same_answer;
 use cb_base::Fault;
-use cb_journal::{Answer, Question};
+use cb_hall::{Answer, Question};
 use cb_peer::Event;
 use cb_trace::{Trace, TraceEntry};
 use std::alloc::Global;

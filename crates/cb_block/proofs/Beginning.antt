@@ -5,8 +5,8 @@ use Rattle.std.proofs.lemmas.List.Elements.{All-from_recursion}
 use Rattle.cb_base.specs.declared.hash.Hash256.{Hash256}
 use Rattle.cb_base.specs.DoubleHash.{double_hash}
 use Rattle.cb_base.specs.CompactSize.{compact_text}
-use Rattle.cb_tx.specs.declared.tx.Tx.{Tx}
-use Rattle.cb_tx.specs.Text.{tx_text, list_text, input_text, output_text, script_text}
+use Rattle.cb_block.specs.declared.tx.Tx.{Tx}
+use Rattle.cb_block.specs.TxText.{tx_text, list_text, input_text, output_text, script_text}
 use Rattle.cb_block.specs.Blocks.{texts}
 use Rattle.cb_block.specs.Genesis.{headline, to_a_key, genesis_tx}
 use Rattle.cb_block.specs.MerkleTree.{itself, HasEqualPair}

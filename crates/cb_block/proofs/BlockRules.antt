@@ -4,11 +4,11 @@ use Rattle.std.specs.Prelude.{MatchResult}
 use Rattle.cb_base.specs.declared.fault.Fault.{Fault}
 use Rattle.cb_base.specs.declared.fault.Fault.TheVariants.{Memory, BadTx}
 use Rattle.cb_base.specs.declared.fault.TxRule.{TxRule}
-use Rattle.cb_tx.specs.declared.tx.Tx.{Tx}
-use Rattle.cb_tx.specs.Rules.{MeetsRules}
+use Rattle.cb_block.specs.declared.tx.Tx.{Tx}
+use Rattle.cb_block.specs.TxRules.{MeetsRules}
 use Rattle.cb_block.specs.declared.block.Block.{Block}
 use Rattle.cb_block.specs.Blocks.{HasOneCoinbase, BreaksFirst, MeetsBlockRules, IsRefused}
-use Rattle.cb_block.specs.Text.{block_text}
+use Rattle.cb_block.specs.BlockText.{block_text}
 
 pub block_verdict : {T : Type 0} (b : Block) (r : Result T Fault) → length (block_text b) ≤ 1000000 → HasOneCoinbase b.txs
     → MatchResult r (λ _. All MeetsRules b.txs) (λ fault. (fault ≡ Memory) ⊎ ((rule : TxRule) × (fault ≡ BadTx rule) × BreaksFirst b.txs rule))

@@ -7,16 +7,16 @@ use Rattle.cb_base.specs.declared.hash.Hash256.{Hash256}
 use Rattle.cb_base.specs.Reading.{number_at, signed_at}
 use Rattle.cb_base.proofs.Fields.{wide32}
 use Rattle.cb_base.proofs.CutTexts.{IsPart, some_of, short_then, short_last, number_part}
-use Rattle.cb_tx.specs.declared.tx.Tx.{Tx}
-use Rattle.cb_tx.specs.Text.{list_text, tx_text, IsTx}
-use Rattle.cb_tx.specs.Reading.{hash_at, list_at, tx_at}
-use Rattle.cb_tx.proofs.Parts.{signed32}
-use Rattle.cb_tx.proofs.Laws.{tx_kind}
-use Rattle.cb_tx.proofs.CutTexts.{signed_part, hash_part, list_part, tx_short}
+use Rattle.cb_block.specs.declared.tx.Tx.{Tx}
+use Rattle.cb_block.specs.TxText.{list_text, tx_text, IsTx}
+use Rattle.cb_block.specs.TxReading.{hash_at, list_at, tx_at}
+use Rattle.cb_block.proofs.Parts.{signed32}
+use Rattle.cb_block.proofs.TxLaws.{tx_kind}
+use Rattle.cb_block.proofs.CutTxs.{signed_part, hash_part, list_part, tx_short}
 use Rattle.cb_block.specs.declared.header.Header.{Header}
 use Rattle.cb_block.specs.declared.block.Block.{Block}
-use Rattle.cb_block.specs.Text.{header_text, block_text, IsHeader, IsBlock}
-use Rattle.cb_block.specs.Reading.{header_at, block_at}
+use Rattle.cb_block.specs.BlockText.{header_text, block_text, IsHeader, IsBlock}
+use Rattle.cb_block.specs.BlockReading.{header_at, block_at}
 use Rattle.cb_block.proofs.Headers.{header_again}
 
 header_short : (h : Header) (b c : List ℕ) → IsHeader h → header_text h ≡ b ++ c → 0 < length c → header_at b ≡ Err Truncated

@@ -7,15 +7,15 @@ use Rattle.cb_base.specs.declared.fault.Fault.{Fault}
 use Rattle.cb_base.specs.declared.fault.Fault.TheVariants.{Memory}
 use Rattle.cb_base.specs.Reading.{Reads, ReadsInMemory, ◌>>=◌, number_at, signed_at}
 use Rattle.cb_base.proofs.Fields.{AreBytes, bind_ok, ok_is, Takes, Takes-then, wide32, number_takes, number_again}
-use Rattle.cb_tx.specs.declared.tx.Tx.{Tx}
-use Rattle.cb_tx.specs.Text.{tx_text, list_text, IsTx}
-use Rattle.cb_tx.specs.Reading.{hash_at, list_at, tx_at}
-use Rattle.cb_tx.proofs.Parts.{signed32, signed_takes, signed_again, hash_takes, hash_again, list_takes, list_again}
-use Rattle.cb_tx.proofs.Laws.{tx_kind}
+use Rattle.cb_block.specs.declared.tx.Tx.{Tx}
+use Rattle.cb_block.specs.TxText.{tx_text, list_text, IsTx}
+use Rattle.cb_block.specs.TxReading.{hash_at, list_at, tx_at}
+use Rattle.cb_block.proofs.Parts.{signed32, signed_takes, signed_again, hash_takes, hash_again, list_takes, list_again}
+use Rattle.cb_block.proofs.TxLaws.{tx_kind}
 use Rattle.cb_block.specs.declared.header.Header.{Header}
 use Rattle.cb_block.specs.declared.block.Block.{Block}
-use Rattle.cb_block.specs.Text.{header_text, block_text, IsHeader, IsBlock}
-use Rattle.cb_block.specs.Reading.{header_at, block_at}
+use Rattle.cb_block.specs.BlockText.{header_text, block_text, IsHeader, IsBlock}
+use Rattle.cb_block.specs.BlockReading.{header_at, block_at}
 
 header_spells : (bytes : List ℕ) (x : Header) (rest : List ℕ) → AreBytes bytes → header_at bytes ≡ Ok (x, rest) → Takes bytes (header_text x) rest × IsHeader x
 unfolding header_at header_text

@@ -5,9 +5,9 @@ use Rattle.cb_base.specs.declared.fault.Fault.{Fault}
 use Rattle.cb_base.specs.declared.fault.Fault.TheVariants.{Memory}
 use Rattle.cb_base.specs.Reading.{number_at, signed_at}
 use Rattle.cb_base.proofs.Unpaid.{IsUnpaid, unpaid_then, unpaid_number, unpaid_signed, never_memory}
-use Rattle.cb_tx.specs.Reading.{hash_at}
-use Rattle.cb_tx.proofs.Taking.{unpaid_hash}
-use Rattle.cb_block.specs.Reading.{header_at}
+use Rattle.cb_block.specs.TxReading.{hash_at}
+use Rattle.cb_block.proofs.TakingTxs.{unpaid_hash}
+use Rattle.cb_block.specs.BlockReading.{header_at}
 
 unpaid_header : (bytes : List ℕ) → IsUnpaid (header_at bytes)
 unfolding header_at

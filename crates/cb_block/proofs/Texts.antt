@@ -6,9 +6,9 @@ use Rattle.std.proofs.lemmas.List.Elements.{All-from_recursion, All-more, recurs
 use Rattle.std.proofs.lemmas.List.{map-append, take_more}
 use Rattle.cb_base.specs.declared.hash.Hash256.{Hash256}
 use Rattle.cb_base.specs.DoubleHash.{double_hash}
-use Rattle.cb_tx.specs.declared.tx.Tx.{Tx}
-use Rattle.cb_tx.specs.Text.{tx_text, IsTx}
-use Rattle.cb_tx.proofs.Laws.{one_text}
+use Rattle.cb_block.specs.declared.tx.Tx.{Tx}
+use Rattle.cb_block.specs.TxText.{tx_text, IsTx}
+use Rattle.cb_block.proofs.TxLaws.{one_text}
 use Rattle.cb_block.specs.Soundness.{names, IsSound, AreApart}
 use Rattle.cb_block.specs.Blocks.{texts}
 use Rattle.cb_block.proofs.Only.{only_one}

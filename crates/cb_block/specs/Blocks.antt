@@ -3,13 +3,13 @@ use Rattle.std.specs.Prelude.{◌≡◌, ◌≢◌, ℕ, ◌<◌, ◌≤◌, Lis
 use Rattle.cb_base.specs.declared.fault.Fault.{Fault}
 use Rattle.cb_base.specs.declared.fault.Fault.TheVariants.{Empty, Size64, Mutated, BadRoot, Oversize, BadCoinbase, BadTx}
 use Rattle.cb_base.specs.declared.fault.TxRule.{TxRule}
-use Rattle.cb_tx.specs.declared.tx.Tx.{Tx}
-use Rattle.cb_tx.specs.Text.{tx_text}
-use Rattle.cb_tx.specs.Rules.{IsCoinbase, IsLeastBroken, MeetsFirst, MeetsRules}
+use Rattle.cb_block.specs.declared.tx.Tx.{Tx}
+use Rattle.cb_block.specs.TxText.{tx_text}
+use Rattle.cb_block.specs.TxRules.{IsCoinbase, IsLeastBroken, MeetsFirst, MeetsRules}
 use Rattle.cb_block.specs.declared.block.Block.{Block}
 use Rattle.cb_block.specs.MerkleTree.{IsRoot, IsMutated}
 use Rattle.cb_block.specs.Soundness.{names, IsSound}
-use Rattle.cb_block.specs.Text.{block_text}
+use Rattle.cb_block.specs.BlockText.{block_text}
 
 -- the serialisations of the transactions
 abbrev pub texts : List Tx → List (List ℕ)

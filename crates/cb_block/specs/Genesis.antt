@@ -1,10 +1,10 @@
 -- The genesis block of regtest (Bitcoin's protocol).
 use Rattle.std.specs.Prelude.{ℕ, pos, List, [], ◌∷◌, codes, replicate}
 use Rattle.cb_base.specs.DoubleHash.{double_hash}
-use Rattle.cb_tx.specs.declared.tx.TxIn.{TxIn}
-use Rattle.cb_tx.specs.declared.tx.TxOut.{TxOut}
-use Rattle.cb_tx.specs.declared.tx.Tx.{Tx}
-use Rattle.cb_tx.specs.Text.{tx_text}
+use Rattle.cb_block.specs.declared.tx.TxIn.{TxIn}
+use Rattle.cb_block.specs.declared.tx.TxOut.{TxOut}
+use Rattle.cb_block.specs.declared.tx.Tx.{Tx}
+use Rattle.cb_block.specs.TxText.{tx_text}
 use Rattle.cb_block.specs.declared.header.Header.{Header}
 use Rattle.cb_block.specs.declared.block.Block.{Block}
 

@@ -1,8 +1,13 @@
+pub mod BlockReading
+pub mod BlockText
 pub mod Blocks
 pub mod Decision
 pub mod Genesis
 pub mod MerkleTree
-pub mod Reading
 pub mod Soundness
-pub mod Text
+pub mod TxReading
+pub mod TxRules
+pub mod TxText
+pub mod TxWriting
+pub mod Txid
 pub mod Work

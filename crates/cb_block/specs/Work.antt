@@ -2,7 +2,7 @@
 use Rattle.std.specs.Prelude.{◌≡◌, ℕ, ◌+◌, ◌*◌, ◌^◌, ◌≤◌, List, [], ◌∷◌}
 use Rattle.cb_base.specs.DoubleHash.{double_hash}
 use Rattle.cb_block.specs.declared.header.Header.{Header}
-use Rattle.cb_block.specs.Text.{header_text}
+use Rattle.cb_block.specs.BlockText.{header_text}
 
 -- the bytes as a little-endian number
 abbrev pub little_endian : List ℕ → ℕ

@@ -1,8 +1,8 @@
 ghost use Rattle.std.specs.Prelude.{◌≡◌, length};
 
 use crate::header::Header;
+use crate::tx::Tx;
 use cb_base::Shared;
-use cb_tx::Tx;
 use std::marker::Model;
 
 /// The transactions of a block. Each of them may have other owners. Contracts see the list.
@@ -13,7 +13,7 @@ pub struct Txs {
 
 impl Model for Txs {
     ghost use Rattle.std.specs.Prelude.{List};
-    ghost use Rattle.cb_tx.specs.declared.tx.Tx.{Tx};
+    ghost use Rattle.cb_block.specs.declared.tx.Tx.{Tx};
 
     ghost Value = { List Tx };
 

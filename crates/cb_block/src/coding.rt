@@ -2,20 +2,20 @@ ghost use Rattle.std.specs.Prelude.{◌≡◌, ℕ, ◌+◌, ◌-◌, ◌^◌, �
 ghost use Rattle.cb_base.specs.Reading.{ReadsInMemory};
 ghost use Rattle.cb_base.specs.declared.fault.Fault.{Fault};
 ghost use Rattle.cb_base.specs.declared.fault.Fault.TheVariants.{Memory};
-ghost use Rattle.cb_tx.specs.Reading.{GivesInMemory};
-ghost use Rattle.cb_tx.specs.Writing.{Extends};
-ghost use Rattle.cb_block.specs.Reading.{TakesMemory, block_at, first_count_at};
-ghost use Rattle.cb_block.specs.Text.{IsBlock, block_text};
+ghost use Rattle.cb_block.specs.TxReading.{GivesInMemory};
+ghost use Rattle.cb_block.specs.TxWriting.{Extends};
+ghost use Rattle.cb_block.specs.BlockReading.{TakesMemory, block_at, first_count_at};
+ghost use Rattle.cb_block.specs.BlockText.{IsBlock, block_text};
 ghost use Rattle.cb_block.specs.declared.block.Block.{Block};
 
 use crate::block::{Block, Txs};
 use crate::header::read_header;
+use crate::lists::{items_size, put_items, read_items};
 use cb_base::{Cursor, Fault};
-use cb_tx::{items_size, put_items, read_items};
 use std::alloc::Global;
 
 /// Reads a block. After an error the cursor may have advanced.
-#[tactic(auto, unfolding(crate::specs::Reading::block_at, crate::specs::Reading::first_count_at))]
+#[tactic(auto, unfolding(crate::specs::BlockReading::block_at, crate::specs::BlockReading::first_count_at))]
 fn block_or_fault(alloc: Global, cursor: &mut Cursor) -> Result<Block, Fault>
     ensures exact { GivesInMemory (block_at cursor.old) result cursor.new }
     ensures unpaid { (fault : Fault) → first_count_at cursor.old ≡ Err fault → result ≡ Err fault }
@@ -77,7 +77,7 @@ pub fn read_block<'a>(alloc: Global, cursor: &mut Cursor<'a>) -> Result<Block, F
     }
 }
 
-#[tactic(auto, unfolding(crate::specs::Text::block_text), using(cb_tx::proofs::Appends::appends))]
+#[tactic(auto, unfolding(crate::specs::BlockText::block_text), using(crate::proofs::Appends::appends))]
 fn put_block(out: &mut Vec<u8>, block: &Block) -> Result<(), Fault>
     ensures ok { OnOk result (out.new.items ≡ out.old.items ++ block_text block.now) }
     ensures err { OnErr result (Extends out.old.items out.new.items) }
@@ -112,7 +112,7 @@ pub fn write_block(out: &mut Vec<u8>, block: &Block) -> Result<(), Fault>
 
 impl Block {
     /// The length of its serialisation in bytes, or 2^64 - 1 if it is longer than that.
-    #[tactic(auto, unfolding(crate::specs::Text::block_text))]
+    #[tactic(auto, unfolding(crate::specs::BlockText::block_text))]
     pub fn size(&self) -> u64
         ensures { result ≡ min (length (block_text self.now)) (2 ^ 64 - 1) }
     {

@@ -2,8 +2,9 @@ ghost use Rattle.std.specs.Prelude.{◌≡◌, IfOk, IsOkUnless};
 ghost use Rattle.cb_base.specs.declared.fault.Fault.TheVariants.{Memory};
 ghost use Rattle.cb_block.specs.Genesis.{genesis_tx};
 
+use crate::script::Script;
+use crate::tx::{Inputs, OutPoint, Outputs, Tx, TxIn, TxOut};
 use cb_base::{Fault, Hash256};
-use cb_tx::{Inputs, OutPoint, Outputs, Script, Tx, TxIn, TxOut};
 use std::alloc::Global;
 
 /// The input script of the genesis coinbase. It pushes the bits of the main network's genesis

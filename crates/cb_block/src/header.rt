@@ -3,14 +3,13 @@ ghost use Rattle.cb_base.specs.CompactSize.{Gives};
 ghost use Rattle.cb_base.specs.DoubleHash.{double_hash};
 ghost use Rattle.cb_base.specs.Reading.{Reads};
 ghost use Rattle.cb_base.specs.declared.fault.Fault.TheVariants.{BadWork};
-ghost use Rattle.cb_block.specs.Reading.{header_at};
-ghost use Rattle.cb_block.specs.Text.{IsHeader, header_text};
+ghost use Rattle.cb_block.specs.BlockReading.{header_at};
+ghost use Rattle.cb_block.specs.BlockText.{IsHeader, header_text};
 ghost use Rattle.cb_block.specs.Work.{HasWork, little_endian};
 ghost use Rattle.cb_block.specs.declared.header.Header.{Header};
 
-use cb_base::{Cursor, Fault, Hash256, dsha};
-use cb_lanes::dsha_80s;
-use cb_tx::read_hash;
+use crate::tx_reading::read_hash;
+use cb_base::{Cursor, Fault, Hash256, dsha, dsha_80s};
 
 /// The bits of every header of the network: the target of regtest in compact form.
 pub const BITS: u32 = 0x207f_ffff;
@@ -32,7 +31,7 @@ pub struct Header {
 
 impl Header {
     /// Its serialisation of 80 bytes.
-    #[tactic(auto, unfolding(crate::specs::Text::header_text))]
+    #[tactic(auto, unfolding(crate::specs::BlockText::header_text))]
     pub fn text(&self) -> [u8; 80]
         ensures bytes { result ≡ header_text self.now }
         // Each number fits its field, and each hash has 32 bytes.
@@ -76,7 +75,7 @@ pub fn hashes_of_four(
 }
 
 /// Reads a header. After an error the cursor may have advanced.
-#[tactic(auto, unfolding(crate::specs::Reading::header_at))]
+#[tactic(auto, unfolding(crate::specs::BlockReading::header_at))]
 fn header_or_fault(cursor: &mut Cursor) -> Result<Header, Fault>
     ensures { Gives (header_at cursor.old) result cursor.new }
 {

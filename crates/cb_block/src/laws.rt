@@ -4,9 +4,9 @@ ghost use Rattle.std.specs.Prelude.{◌≡◌, ◌≢◌, ℕ, List, [], ◌++�
 ghost use Rattle.cb_base.specs.declared.fault.Fault.TheVariants.{Truncated};
 ghost use Rattle.cb_base.specs.declared.hash.Hash256.{Hash256};
 ghost use Rattle.cb_block.specs.MerkleTree.{IsRoot};
-ghost use Rattle.cb_block.specs.Reading.{block_at, header_at};
+ghost use Rattle.cb_block.specs.BlockReading.{block_at, header_at};
 ghost use Rattle.cb_block.specs.Soundness.{AreApart, IsSound};
-ghost use Rattle.cb_block.specs.Text.{IsBlock, IsHeader, block_text, header_text};
+ghost use Rattle.cb_block.specs.BlockText.{IsBlock, IsHeader, block_text, header_text};
 ghost use Rattle.cb_block.specs.declared.block.Block.{Block};
 ghost use Rattle.cb_block.specs.declared.header.Header.{Header};
 

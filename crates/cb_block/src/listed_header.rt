@@ -2,18 +2,18 @@
 ghost use Rattle.std.specs.Prelude.{◌≡◌, ◌+◌, ◌-◌, ◌^◌, ◌<◌, ◌≤◌, ◌++◌, length, min, IsOkUnless, OnOk, OnErr, vec_capacity, vec_len};
 ghost use Rattle.cb_base.specs.CompactSize.{Gives};
 ghost use Rattle.cb_base.specs.declared.fault.Fault.TheVariants.{Memory};
-ghost use Rattle.cb_tx.specs.Writing.{Extends};
-ghost use Rattle.cb_block.specs.Reading.{listed_header_at};
-ghost use Rattle.cb_block.specs.Text.{IsHeader, listed_header_text};
+ghost use Rattle.cb_block.specs.TxWriting.{Extends};
+ghost use Rattle.cb_block.specs.BlockReading.{listed_header_at};
+ghost use Rattle.cb_block.specs.BlockText.{IsHeader, listed_header_text};
 
+use crate::coded::Coded;
 use crate::header::{Header, read_header};
 use cb_base::{Cursor, Fault, put_compact};
-use cb_tx::Coded;
 use std::alloc::Global;
 
 impl Coded for Header {
-    ghost use Rattle.cb_block.specs.Reading.{listed_header_at};
-    ghost use Rattle.cb_block.specs.Text.{IsHeader, listed_header_text};
+    ghost use Rattle.cb_block.specs.BlockReading.{listed_header_at};
+    ghost use Rattle.cb_block.specs.BlockText.{IsHeader, listed_header_text};
 
     ghost text = { listed_header_text };
 
@@ -40,7 +40,7 @@ impl Coded for Header {
 
 /// Reads a header of `headers`: 80 bytes and a count of transactions. Fails with `Fault::BadBool`
 /// if the count isn't 0.
-#[tactic(auto, unfolding(crate::specs::Reading::listed_header_at))]
+#[tactic(auto, unfolding(crate::specs::BlockReading::listed_header_at))]
 fn read_listed_header(cursor: &mut Cursor) -> Result<Header, Fault>
     ensures { Gives (listed_header_at cursor.old) result cursor.new }
 {
@@ -53,7 +53,7 @@ fn read_listed_header(cursor: &mut Cursor) -> Result<Header, Fault>
     }
 }
 
-#[tactic(auto, unfolding(crate::specs::Text::listed_header_text), using(cb_tx::proofs::Appends::appends))]
+#[tactic(auto, unfolding(crate::specs::BlockText::listed_header_text), using(crate::proofs::Appends::appends))]
 fn put_listed_header(out: &mut Vec<u8>, header: &Header) -> Result<(), Fault>
     ensures ok { OnOk result (out.new.items ≡ out.old.items ++ listed_header_text header.now) }
     ensures err { OnErr result (Extends out.old.items out.new.items) }
@@ -67,7 +67,7 @@ fn put_listed_header(out: &mut Vec<u8>, header: &Header) -> Result<(), Fault>
     put_compact(out, 0)
 }
 
-#[tactic(auto, unfolding(crate::specs::Text::listed_header_text, cb_base::specs::CompactSize::compact_text))]
+#[tactic(auto, unfolding(crate::specs::BlockText::listed_header_text, cb_base::specs::CompactSize::compact_text))]
 fn listed_header_size(header: &Header) -> u64
     ensures size { result ≡ min (length (listed_header_text header.now)) (2 ^ 64 - 1) }
     ensures kept { IsHeader header.now }

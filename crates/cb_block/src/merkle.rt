@@ -3,8 +3,7 @@ ghost use Rattle.cb_base.specs.declared.fault.Fault.TheVariants.{Memory};
 ghost use Rattle.cb_base.specs.DoubleHash.{double_hash};
 ghost use Rattle.cb_block.specs.MerkleTree.{HasEqualPair, IsMutated, IsRoot, up};
 
-use cb_base::{Fault, Hash256, sha};
-use cb_lanes::dsha_64s;
+use cb_base::{Fault, Hash256, dsha_64s, sha};
 use sha2::{Digest, Sha256};
 use std::alloc::Global;
 

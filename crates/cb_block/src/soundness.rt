@@ -1,7 +1,7 @@
 ghost use Rattle.std.specs.Prelude.{◌≡◌, ◌≢◌, ℕ, ◌*◌, ◌/◌, ◌<◌, ◌⊎◌, ◌↔◌, List, [], length, map, take, OnOk, All, Any, IfOk, IfErr, IsErrAnd, IsOkUnless, IsTrue};
 ghost use Rattle.cb_base.specs.declared.fault.Fault.TheVariants.{Empty, Memory, Size64};
-ghost use Rattle.cb_tx.specs.Text.{IsTx, tx_text};
-ghost use Rattle.cb_tx.specs.declared.tx.Tx.{Tx};
+ghost use Rattle.cb_block.specs.TxText.{IsTx, tx_text};
+ghost use Rattle.cb_block.specs.declared.tx.Tx.{Tx};
 ghost use Rattle.cb_block.specs.Blocks.{IsSoundBlock, IsUnsound, texts};
 ghost use Rattle.cb_block.specs.Genesis.{genesis_block};
 ghost use Rattle.cb_block.specs.Soundness.{AreApart, IsSound, names};
@@ -10,9 +10,9 @@ use crate::block::{Block, Txs};
 use crate::genesis_tx::first_tx;
 use crate::header::{BITS, Header};
 use crate::merkle::tree;
-use cb_base::{Fault, Hash256, Shared, dsha};
-use cb_lanes::dsha_four;
-use cb_tx::{Tx, write_tx};
+use crate::tx::Tx;
+use crate::tx_writing::write_tx;
+use cb_base::{Fault, Hash256, Shared, dsha, dsha_four};
 use std::alloc::Global;
 use std::marker::Model;
 

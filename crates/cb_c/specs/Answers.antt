@@ -4,13 +4,13 @@ use Rattle.cb_base.specs.declared.fault.Fault.{Fault}
 use Rattle.cb_base.specs.declared.fault.Fault.TheVariants.{Memory}
 use Rattle.cb_c.specs.Giving.{IsGiven}
 use Rattle.cb_c.specs.Status.{status_of}
-use Rattle.cb_relay_bytes.specs.Envelopes.{EnvelopeTakesMemory, cut_at}
-use Rattle.cb_relay_bytes.specs.Messages.{wrong_message}
-use Rattle.cb_relay_bytes.specs.declared.envelope.Cut.TheVariants.{Broken, Partial, Whole}
-use Rattle.cb_relay_bytes.specs.declared.message.NoMessage.{NoMessage}
-use Rattle.cb_relay_bytes.specs.declared.message.NoMessage.TheVariants.{Bad, Damaged}
-use Rattle.cb_relay_bytes.specs.declared.rebuilding.Kind.{Kind}
-use Rattle.cb_relay_bytes.specs.declared.rebuilding.Kind.TheVariants.{Block, Request, Useless}
+use Rattle.cb_relay.specs.Envelopes.{EnvelopeTakesMemory, cut_at}
+use Rattle.cb_relay.specs.Messages.{wrong_message}
+use Rattle.cb_relay.specs.declared.envelope.CutEnvelope.TheVariants.{Broken, Partial, Whole}
+use Rattle.cb_relay.specs.declared.message.NoMessage.{NoMessage}
+use Rattle.cb_relay.specs.declared.message.NoMessage.TheVariants.{Bad, Damaged}
+use Rattle.cb_relay.specs.declared.rebuilding.Kind.{Kind}
+use Rattle.cb_relay.specs.declared.rebuilding.Kind.TheVariants.{Block, Request, Useless}
 
 -- the fault is that of the definition, or memory ran out where it was asked for
 abbrev pub IsWhy : {A : Type 0} → Result A Fault → Type 0 → Fault → Type 0

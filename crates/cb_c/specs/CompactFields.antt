@@ -1,8 +1,8 @@
 -- The fields of a compact block as C has them.
 use Rattle.std.specs.Prelude.{◌≡◌, length}
-use Rattle.cb_bytes.specs.Shapes.{header_of}
-use Rattle.cb_payload.specs.declared.compact_block.HeaderAndShortIds.{HeaderAndShortIds}
-use Rattle.cb_relay_bytes.specs.declared.shapes.CbCompact.{CbCompact}
+use Rattle.cb_relay.specs.Shapes.{header_of}
+use Rattle.cb_wire.specs.declared.compact_block.HeaderAndShortIds.{HeaderAndShortIds}
+use Rattle.cb_relay.specs.declared.message_shapes.CbCompact.{CbCompact}
 
 -- the fields are those of the compact block, and the counts those of its lists
 abbrev pub AreCompactFields : HeaderAndShortIds → CbCompact → Type 0

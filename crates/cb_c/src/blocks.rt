@@ -1,14 +1,14 @@
 ghost use Rattle.std.specs.Prelude.{◌≡◌};
 ghost use Rattle.cb_block.specs.declared.block.Block.{Block};
-ghost use Rattle.cb_bytes.specs.Parts.{IsNoSpans};
-ghost use Rattle.cb_bytes.specs.Spans.{spans_of};
-ghost use Rattle.cb_bytes.specs.Whole.{IsBlockOf, IsNoSoundBlock, IsNoValidBlock, IsSoundOf, IsValidOf};
+ghost use Rattle.cb_relay.specs.Parts.{IsNoSpans};
+ghost use Rattle.cb_relay.specs.Spans.{spans_of};
+ghost use Rattle.cb_relay.specs.Whole.{IsBlockOf, IsNoSoundBlock, IsNoValidBlock, IsSoundOf, IsValidOf};
 ghost use Rattle.cb_c.specs.Giving.{Gives};
 ghost use Rattle.cb_c.specs.Status.{Answers};
 
 use crate::giving::give;
 use crate::status::status;
-use cb_bytes::{CbSpan, block_spans, sound_block, valid_block};
+use cb_relay::{CbSpan, block_spans, sound_block, valid_block};
 use std::alloc::Global;
 
 /// Whether the bytes are one sound block: its transactions are the only ones that fit its header.

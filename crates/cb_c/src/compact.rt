@@ -1,22 +1,21 @@
 ghost use Rattle.std.specs.Prelude.{◌≡◌, ◌<◌, ◌⊎◌, ℕ, List, length, map, IfErr, IfOk, Ok};
-ghost use Rattle.cb_bytes.specs.Shapes.{hash_of};
+ghost use Rattle.cb_relay.specs.Shapes.{hash_of};
 ghost use Rattle.cb_c.specs.Answers.{GivesKind, IsWhy, kind_number};
 ghost use Rattle.cb_c.specs.Giving.{Gives, IsGiven};
-ghost use Rattle.cb_payload.specs.CompactBlocks.{CompactBlockTakesMemory};
-ghost use Rattle.cb_relay_bytes.specs.Compacting.{IsCompacted, IsNotCompacted};
-ghost use Rattle.cb_relay_bytes.specs.Completing.{completed_in};
-ghost use Rattle.cb_relay_bytes.specs.Known.{known_in};
-ghost use Rattle.cb_relay_bytes.specs.Rebuilding.{rebuilt_in, request_in};
-ghost use Rattle.cb_relay_bytes.specs.Serving.{ServingTakesMemory, served_in};
-ghost use Rattle.cb_relay_bytes.specs.declared.rebuilding.Kind.{Kind};
+ghost use Rattle.cb_wire.specs.CompactBlocks.{CompactBlockTakesMemory};
+ghost use Rattle.cb_relay.specs.Compacting.{IsCompacted, IsNotCompacted};
+ghost use Rattle.cb_relay.specs.Completing.{completed_in};
+ghost use Rattle.cb_relay.specs.Known.{known_in};
+ghost use Rattle.cb_relay.specs.Rebuilding.{rebuilt_in, request_in};
+ghost use Rattle.cb_relay.specs.Serving.{ServingTakesMemory, served_in};
+ghost use Rattle.cb_relay.specs.declared.rebuilding.Kind.{Kind};
 
 use crate::giving::give;
 use crate::status::status;
 use cb_base::Fault;
-use cb_bytes::{CbHash, hashes_of};
-use cb_relay_bytes::{
-    Answer, Kind, block_transactions, block_transactions_request, compact_block, complete_block,
-    rebuild_block, rebuild_block_known,
+use cb_relay::{
+    CbHash, CompactOutcome, Kind, block_transactions, block_transactions_request, compact_block,
+    complete_block, hashes_of, rebuild_block, rebuild_block_known,
 };
 use std::alloc::Global;
 
@@ -32,7 +31,7 @@ fn number(kind: Kind) -> u32
 }
 
 /// Tells the kind of an answer, and gives its text.
-fn tell(answer: &Answer, out: &mut [u8], len: &mut usize, kind: &mut u32) -> u32
+fn tell(answer: &CompactOutcome, out: &mut [u8], len: &mut usize, kind: &mut u32) -> u32
     ensures kind { kind.new ≡ kind_number answer.now.kind }
     ensures text { IsGiven answer.now.text.items out.old out.new len.new result }
 {
@@ -59,7 +58,7 @@ pub extern "C" fn cbrelay_compact_block(
 }
 
 /// What comes of a compact block and known transactions.
-fn rebuilt(alloc: Global, message: &[u8], txs: &[u8]) -> Result<Answer, Fault>
+fn rebuilt(alloc: Global, message: &[u8], txs: &[u8]) -> Result<CompactOutcome, Fault>
     ensures fine { IfOk result
         (λ answer. rebuilt_in message.now txs.now ≡ Ok (answer.kind, answer.text.items)) }
     ensures refused { IfErr result
@@ -93,7 +92,7 @@ fn rebuilt_known(
     message: &[u8],
     txs: &[u8],
     txids: &[CbHash],
-) -> Result<Answer, Fault>
+) -> Result<CompactOutcome, Fault>
     ensures fine { IfOk result
         (λ answer. known_in message.now txs.now (map hash_of txids.now)
         ≡ Ok (answer.kind, answer.text.items)) }
@@ -189,7 +188,12 @@ pub extern "C" fn cbrelay_block_transactions(
 }
 
 /// What comes of a compact block, known transactions and those that it lacked.
-fn completed(alloc: Global, message: &[u8], txs: &[u8], more: &[u8]) -> Result<Answer, Fault>
+fn completed(
+    alloc: Global,
+    message: &[u8],
+    txs: &[u8],
+    more: &[u8],
+) -> Result<CompactOutcome, Fault>
     ensures fine { IfOk result
         (λ answer. completed_in message.now txs.now more.now
         ≡ Ok (answer.kind, answer.text.items)) }

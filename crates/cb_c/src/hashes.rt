@@ -2,17 +2,17 @@ ghost use Rattle.std.specs.Prelude.{◌≡◌, ◌<◌, ◌^◌, length, map};
 ghost use Rattle.cb_base.specs.DoubleHash.{double_hash};
 ghost use Rattle.cb_base.specs.SipHash.{siphash_2_4};
 ghost use Rattle.cb_block.specs.declared.header.Header.{Header};
-ghost use Rattle.cb_bytes.specs.Merkle.{HasNoTree, IsTreeOf};
-ghost use Rattle.cb_bytes.specs.Shapes.{hash_of};
-ghost use Rattle.cb_bytes.specs.Whole.{IsHeaderOf, IsNoHeader, IsNoTx, IsTxOf};
+ghost use Rattle.cb_relay.specs.Merkle.{HasNoTree, IsTreeOf};
+ghost use Rattle.cb_relay.specs.Shapes.{hash_of};
+ghost use Rattle.cb_relay.specs.Whole.{IsHeaderOf, IsNoHeader, IsNoTx, IsTxOf};
 ghost use Rattle.cb_c.specs.Status.{Answers};
 ghost use Rattle.cb_compact.specs.ShortIds.{key_of, short_id_of};
-ghost use Rattle.cb_tx.specs.declared.tx.Tx.{Tx};
+ghost use Rattle.cb_block.specs.declared.tx.Tx.{Tx};
 
 use crate::status::status;
 use cb_base::{Hash256, dsha, sip24};
-use cb_bytes::{CbHash, CbKey, block_hash, merkle_root, whole_header};
 use cb_compact::short_id;
+use cb_relay::{CbHash, CbKey, block_hash, merkle_root, whole_header};
 use std::alloc::Global;
 
 /// The double SHA-256 of the bytes.
@@ -31,7 +31,7 @@ pub extern "C" fn cbrelay_txid(alloc: Global, tx: &[u8], txid: &mut CbHash) -> u
         (((read : Tx) × IsTxOf tx.now read) × (hash_of txid.new ≡ double_hash tx.now))
         (λ fault. IsNoTx tx.now fault × (txid.new ≡ txid.old)) }
 {
-    match cb_bytes::txid(alloc, tx) {
+    match cb_relay::txid(alloc, tx) {
         Ok(name) => {
             let bytes = name.0;
             txid.bytes = bytes;

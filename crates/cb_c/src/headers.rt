@@ -1,15 +1,15 @@
 ghost use Rattle.std.specs.Prelude.{◌≡◌};
-ghost use Rattle.cb_block.specs.Text.{header_text};
+ghost use Rattle.cb_block.specs.BlockText.{header_text};
 ghost use Rattle.cb_block.specs.Work.{HasWork};
 ghost use Rattle.cb_block.specs.declared.header.Header.{Header};
-ghost use Rattle.cb_bytes.specs.Shapes.{header_of};
-ghost use Rattle.cb_bytes.specs.Whole.{IsHeaderOf, IsNoHeader, IsNoWork};
+ghost use Rattle.cb_relay.specs.Shapes.{header_of};
+ghost use Rattle.cb_relay.specs.Whole.{IsHeaderOf, IsNoHeader, IsNoWork};
 ghost use Rattle.cb_c.specs.Giving.{IsGiven};
 ghost use Rattle.cb_c.specs.Status.{Answers};
 
 use crate::giving::give;
 use crate::status::status;
-use cb_bytes::{CbHeader, check_work, header_fields, header_from_fields, whole_header};
+use cb_relay::{CbHeader, check_work, header_fields, header_from_fields, whole_header};
 
 /// Reads the header that is all of these bytes. After a fault `fields` is unchanged.
 #[unsafe(no_mangle)]

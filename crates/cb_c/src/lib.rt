@@ -1,5 +1,5 @@
 //! The C library: each function that `include/cbrelay.h` declares. Each takes the caller's memory
-//! and keeps none of it. An export tells a result of `cb_bytes` or `cb_relay_bytes` as a status.
+//! and keeps none of it. An export tells a result of `cb_relay` as a status.
 #![tactic(auto)]
 
 mod blocks;

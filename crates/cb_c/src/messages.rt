@@ -2,15 +2,15 @@ ghost use Rattle.std.specs.Prelude.{◌≡◌, ◌⊎◌, IfErr, IfOk, None};
 ghost use Rattle.cb_base.specs.declared.fault.Fault.TheVariants.{Memory};
 ghost use Rattle.cb_c.specs.Answers.{IsCut, IsWrong, verdict_of, wrong_status};
 ghost use Rattle.cb_c.specs.Giving.{IsGiven};
-ghost use Rattle.cb_relay_bytes.specs.Envelopes.{EnvelopeTakesMemory, cut_at};
-ghost use Rattle.cb_relay_bytes.specs.Messages.{MessageTakesMemory, wrong_message};
-ghost use Rattle.cb_relay_bytes.specs.declared.message.NoMessage.{NoMessage};
+ghost use Rattle.cb_relay.specs.Envelopes.{EnvelopeTakesMemory, cut_at};
+ghost use Rattle.cb_relay.specs.Messages.{MessageTakesMemory, wrong_message};
+ghost use Rattle.cb_relay.specs.declared.message.NoMessage.{NoMessage};
 ghost use Rattle.cb_wire.specs.Envelope.{envelope_text};
 
 use crate::giving::give;
 use crate::status::status;
 use cb_base::Fault;
-use cb_relay_bytes::{Cut, NoMessage, envelope_at, message_check, message_write};
+use cb_relay::{CutEnvelope, NoMessage, envelope_at, message_check, message_write};
 use std::alloc::Global;
 
 /// The status of bytes that begin no whole envelope yet.
@@ -40,7 +40,7 @@ fn verdict(wrong: Option<NoMessage>) -> u32
 }
 
 /// What is at the front of a stream.
-fn cut(alloc: Global, bytes: &[u8]) -> Result<Cut, Fault>
+fn cut(alloc: Global, bytes: &[u8]) -> Result<CutEnvelope, Fault>
     ensures fine { IfOk result (λ cut. cut_at bytes.now ≡ cut) }
     ensures refused { IfErr result (λ fault. (fault ≡ Memory) × EnvelopeTakesMemory bytes.now) }
 {
@@ -58,9 +58,9 @@ pub extern "C" fn cbrelay_envelope_at(
     ensures { IsCut bytes.now payload_len.old payload_len.new told.old told.new result }
 {
     match cut(alloc, bytes) {
-        Ok(Cut::Partial) => PARTIAL,
-        Ok(Cut::Broken(fault)) => status(fault),
-        Ok(Cut::Whole(size, wrong)) => {
+        Ok(CutEnvelope::Partial) => PARTIAL,
+        Ok(CutEnvelope::Broken(fault)) => status(fault),
+        Ok(CutEnvelope::Whole(size, wrong)) => {
             *payload_len = size;
             *told = verdict(wrong);
             0

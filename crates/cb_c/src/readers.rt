@@ -2,33 +2,32 @@ ghost use Rattle.std.specs.Prelude.{◌≡◌, ◌⊎◌, ℕ, List, map, if◌t
 ghost use Rattle.std.specs.Int.{w64};
 ghost use Rattle.cb_base.specs.Reading.{number_at};
 ghost use Rattle.cb_base.specs.declared.fault.Fault.{Fault};
-ghost use Rattle.cb_block.specs.Reading.{listed_header_at};
-ghost use Rattle.cb_bytes.specs.Shapes.{hash_of, header_of};
+ghost use Rattle.cb_block.specs.BlockReading.{listed_header_at};
+ghost use Rattle.cb_relay.specs.Shapes.{hash_of, header_of};
 ghost use Rattle.cb_c.specs.Answers.{IsWhy};
 ghost use Rattle.cb_c.specs.CompactFields.{AreCompactFields};
 ghost use Rattle.cb_c.specs.Giving.{AreGiven, Gives, IsGiven};
 ghost use Rattle.cb_c.specs.Status.{Answers, status_of};
-ghost use Rattle.cb_payload.specs.BlockTransactions.{BlockTxsTakesMemory, TxsRequestTakesMemory, block_txs_at, txs_request_at};
-ghost use Rattle.cb_payload.specs.CompactBlocks.{CompactBlockTakesMemory, compact_block_at};
-ghost use Rattle.cb_payload.specs.Lists.{CountsSome, entry_at, listed_at};
-ghost use Rattle.cb_payload.specs.Requests.{TakesMemory, compact_relay_at, request_at};
-ghost use Rattle.cb_payload.specs.Version.{version_at};
-ghost use Rattle.cb_payload.specs.declared.block_transactions.BlockTransactions.{BlockTransactions};
-ghost use Rattle.cb_payload.specs.declared.compact_block.HeaderAndShortIds.{HeaderAndShortIds};
-ghost use Rattle.cb_payload.specs.declared.requests.CompactRelay.{CompactRelay};
-ghost use Rattle.cb_payload.specs.declared.version.Version.{Version};
-ghost use Rattle.cb_relay_bytes.specs.Fields.{entry_of, fields_of};
-ghost use Rattle.cb_relay_bytes.specs.Spans.{AreCompactParts, prefilled_in, spans_in};
-ghost use Rattle.cb_relay_bytes.specs.Whole.{all_of};
+ghost use Rattle.cb_wire.specs.BlockTransactions.{BlockTxsTakesMemory, TxsRequestTakesMemory, block_txs_at, txs_request_at};
+ghost use Rattle.cb_wire.specs.CompactBlocks.{CompactBlockTakesMemory, compact_block_at};
+ghost use Rattle.cb_wire.specs.Lists.{CountsSome, entry_at, listed_at};
+ghost use Rattle.cb_wire.specs.Requests.{TakesMemory, compact_relay_at, request_at};
+ghost use Rattle.cb_wire.specs.Version.{version_at};
+ghost use Rattle.cb_wire.specs.declared.block_transactions.BlockTransactions.{BlockTransactions};
+ghost use Rattle.cb_wire.specs.declared.compact_block.HeaderAndShortIds.{HeaderAndShortIds};
+ghost use Rattle.cb_wire.specs.declared.requests.CompactRelay.{CompactRelay};
+ghost use Rattle.cb_wire.specs.declared.version.Version.{Version};
+ghost use Rattle.cb_relay.specs.Fields.{entry_of, fields_of};
+ghost use Rattle.cb_relay.specs.MessageSpans.{AreCompactParts, prefilled_in, spans_in};
+ghost use Rattle.cb_relay.specs.WholeMessages.{all_of};
 
 use crate::giving::{give, give_both};
 use crate::status::status;
 use cb_base::Fault;
-use cb_bytes::{CbHash, CbHeader, CbSpan};
-use cb_relay_bytes::{
-    CbCompact, CbEntry, CbPrefilled, CbVersionFields, CompactParts, LocatorParts, RequestParts,
-    TxsParts, blocktxn_read, cmpctblock_read, getblocktxn_read, getheaders_read, headers_read,
-    inventory_read, nonce_read, sendcmpct_read, version_read,
+use cb_relay::{
+    CbCompact, CbEntry, CbHash, CbHeader, CbPrefilled, CbSpan, CbVersionFields, CompactParts,
+    LocatorParts, RequestParts, TxsParts, blocktxn_read, cmpctblock_read, getblocktxn_read,
+    getheaders_read, headers_read, inventory_read, nonce_read, sendcmpct_read, version_read,
 };
 use std::alloc::Global;
 

@@ -1,16 +1,16 @@
 ghost use Rattle.std.specs.Prelude.{◌≡◌, ◌⊎◌};
 ghost use Rattle.cb_base.specs.declared.fault.Fault.{Fault};
-ghost use Rattle.cb_bytes.specs.Parts.{IsNoParts};
-ghost use Rattle.cb_bytes.specs.Spans.{fields_of, inputs_of, outputs_of};
-ghost use Rattle.cb_bytes.specs.Whole.{IsNoValidTx, IsTxOf};
+ghost use Rattle.cb_relay.specs.Parts.{IsNoParts};
+ghost use Rattle.cb_relay.specs.Spans.{fields_of, inputs_of, outputs_of};
+ghost use Rattle.cb_relay.specs.Whole.{IsNoValidTx, IsTxOf};
 ghost use Rattle.cb_c.specs.Giving.{AreGiven};
 ghost use Rattle.cb_c.specs.Status.{Answers, status_of};
-ghost use Rattle.cb_tx.specs.Rules.{MeetsRules};
-ghost use Rattle.cb_tx.specs.declared.tx.Tx.{Tx};
+ghost use Rattle.cb_block.specs.TxRules.{MeetsRules};
+ghost use Rattle.cb_block.specs.declared.tx.Tx.{Tx};
 
 use crate::giving::give_both;
 use crate::status::status;
-use cb_bytes::{CbInput, CbOutput, CbTx, check_rules, tx_parts};
+use cb_relay::{CbInput, CbOutput, CbTx, check_rules, tx_parts};
 use std::alloc::Global;
 
 /// Reads the parts of the transaction that is all of these bytes. `fields` has the counts. The

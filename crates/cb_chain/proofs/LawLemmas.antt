@@ -13,7 +13,7 @@ use Rattle.cb_block.specs.declared.header.Header.{Header}
 use Rattle.cb_ledger.specs.Spend.{spend}
 use Rattle.cb_ledger.specs.Unspent.{Unspent}
 use Rattle.cb_ledger.proofs.Txs.{spend-append}
-use Rattle.cb_tx.specs.declared.tx.Tx.{Tx}
+use Rattle.cb_block.specs.declared.tx.Tx.{Tx}
 use Rattle.cb_chain.specs.Entries.{Entry, Tree, block_hash, genesis_hash, same, entry_of, has_block, is_kept, is_known, is_marked}
 use Rattle.cb_chain.specs.Best.{Stop, faulty, missing, active, best, branch, is_higher, spend_block, stopped_at, then_spend, unspent_after}
 use Rattle.cb_chain.specs.History.{IsHistoric}

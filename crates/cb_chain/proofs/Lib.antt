@@ -1,3 +1,4 @@
+pub mod BlockIndexes
 pub mod Branches
 pub mod Chunks
 pub mod Forks
@@ -11,7 +12,6 @@ pub mod Links
 pub mod Locators
 pub mod Marks
 pub mod NewTip
-pub mod BlockIndexes
 pub mod Once
 pub mod Outcomes
 pub mod Pairs
@@ -20,8 +20,8 @@ pub mod Partings
 pub mod PathsDown
 pub mod Places
 pub mod Planning
-mod Reading
 pub mod Reached
+mod Reading
 pub mod Reasons
 pub mod Roots
 pub mod SideBranchIndexes

@@ -17,8 +17,8 @@ use Rattle.cb_chain.specs.Calls.{AcceptsBlock, AcceptsHeader, block_fault, heade
 use Rattle.cb_chain.specs.Entries.{Tree, block_hash}
 use Rattle.cb_chain.specs.Headers.{TakesHeaders, goes_on}
 use Rattle.cb_chain.specs.History.{BlockCall, Call, HeaderCall, IsHistory, IsStep}
-use Rattle.cb_tx.specs.declared.tx.Tx.{Tx}
-use Rattle.cb_tx.specs.Rules.{IsLeastBroken, MeetsRules}
+use Rattle.cb_block.specs.declared.tx.Tx.{Tx}
+use Rattle.cb_block.specs.TxRules.{IsLeastBroken, MeetsRules}
 
 -- ---- a block breaks one rule first
 

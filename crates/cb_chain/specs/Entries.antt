@@ -7,7 +7,7 @@ use Rattle.cb_base.specs.DoubleHash.{double_hash}
 use Rattle.cb_block.specs.declared.header.Header.{Header}
 use Rattle.cb_block.specs.declared.block.Block.{Block}
 use Rattle.cb_block.specs.Genesis.{genesis_header, genesis_block}
-use Rattle.cb_block.specs.Text.{header_text}
+use Rattle.cb_block.specs.BlockText.{header_text}
 
 -- A kept header, its block if that is kept, and whether it is marked bad.
 pub record Entry : Type 0 where

@@ -10,7 +10,7 @@ use Rattle.cb_block.specs.Blocks.{IsRefused}
 use Rattle.cb_block.specs.Genesis.{genesis_header}
 use Rattle.cb_ledger.specs.Spend.{spend}
 use Rattle.cb_ledger.specs.Unspent.{Unspent}
-use Rattle.cb_tx.specs.declared.tx.Tx.{Tx}
+use Rattle.cb_block.specs.declared.tx.Tx.{Tx}
 use Rattle.cb_chain.specs.declared.change.Change.{Change}
 use Rattle.cb_chain.specs.Entries.{Entry, Tree, block_hash, entry_of, height_of, is_kept, is_marked}
 use Rattle.cb_chain.specs.Best.{active, best, leads_through, unspent_after}

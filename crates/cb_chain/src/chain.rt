@@ -20,7 +20,6 @@ use std::marker::Model;
 ///
 /// Contracts see it as the headers and blocks above the genesis block, the newest first. The active
 /// chain and the UTXO set follow from these.
-#[derive(Drop)]
 pub struct Chain {
     pub(crate) alloc: Global,
     pub(crate) tree: Tree,
@@ -49,16 +48,19 @@ impl Model for Chain {
         × IsHistoric (tree_of chain.tree.block_indexes) };
 }
 
-impl Chain {
-    /// The chain of the genesis block alone. Its UTXO set is empty. Its tables have the fixed seed.
-    /// Fails only with `Fault::Memory`.
-    pub fn new(alloc: Global) -> Result<Chain, Fault>
-        ensures first { IfOk result (λ chain. chain ≡ []) }
-        ensures memory { IsOkUnless result Memory }
-    {
-        Chain::with_seed(alloc, Seed::fixed())
+impl Drop for Chain {
+    fn drop(self) {
+        let Chain {
+            alloc: _,
+            tree: _,
+            active: _,
+            ledger: _,
+            side_branch: _,
+        } = self;
     }
+}
 
+impl Chain {
     /// The chain of the genesis block alone. Its UTXO set is empty. Its tables have this seed,
     /// which changes no result. Fails only with `Fault::Memory`.
     pub fn with_seed(alloc: Global, seed: Seed) -> Result<Chain, Fault>

@@ -16,7 +16,9 @@ use crate::block_index::{BareIndex, Kept};
 use crate::branch::{branch_above, fork_of};
 use crate::chain::Chain;
 use crate::change::{Change, Hashes};
-use crate::side_branch::{SideBranch, Stop, keep_side_branch, not_far_below, rest_on, starts_from};
+use crate::side_branch::{
+    BranchFault, SideBranch, keep_side_branch, not_far_below, rest_on, starts_from,
+};
 use crate::tree::Tree;
 use cb_base::{Fault, Hash256};
 use cb_ledger::Ledger;
@@ -24,7 +26,7 @@ use std::alloc::Global;
 
 /// How a block will become the tip.
 #[derive(Drop)]
-struct Plan {
+struct Reorganisation {
     // The fork's height: where the block's branch leaves the active chain.
     fork: usize,
     // The block indexes of the branch above the fork, without the block's own.
@@ -90,7 +92,12 @@ fn change_to(
 
 /// The plan that makes a block the tip. The block's parent must be kept. Fails only with
 /// `Fault::Memory`.
-fn plan_for(alloc: Global, tree: &Tree, active: &[usize], spot: Spot) -> Result<Plan, Fault>
+fn plan_for(
+    alloc: Global,
+    tree: &Tree,
+    active: &[usize],
+    spot: Spot,
+) -> Result<Reorganisation, Fault>
     requires tree { IsTree tree.now.block_indexes }
     requires active { active.now ≡ active_places (tree_of tree.now.block_indexes) }
     requires spot { IsSpot spot spot.header (tree_of tree.now.block_indexes) }
@@ -114,7 +121,7 @@ fn plan_for(alloc: Global, tree: &Tree, active: &[usize], spot: Spot) -> Result<
         branch.as_slice(),
         spot.hash,
     )?;
-    Ok(Plan {
+    Ok(Reorganisation {
         fork,
         branch,
         change,
@@ -129,7 +136,7 @@ fn planned(
     tree: &mut Tree,
     active: &mut Vec<usize>,
     spot: Spot,
-) -> Result<Plan, Fault>
+) -> Result<Reorganisation, Fault>
     requires active { active.old.items ≡ active_places (tree_of tree.old.block_indexes) }
     requires spot { IsSpot spot spot.header (tree_of tree.old.block_indexes) }
     requires kept { is_kept (tree_of tree.old.block_indexes) spot.header.prev ≡ true }
@@ -158,7 +165,7 @@ fn planned(
 
 /// Adds a block whose path can't be connected, and marks bad the first block that can't and all
 /// kept blocks above it. If the reason was `Fault::Memory`, nothing changes.
-fn mark_stop(tree: &mut Tree, block_index: BareIndex, stop: Stop)
+fn mark_stop(tree: &mut Tree, block_index: BareIndex, stop: BranchFault)
     requires room { 0 < tree.old.room }
     requires block_index { IsIndex (index_of block_index false) (tree_of tree.old.block_indexes) }
     requires place { (stop.fault ≡ Memory)
@@ -213,7 +220,7 @@ fn switch(
 {
     let mut back = tried.into_changes(alloc)?;
     ledger.reserve(back.len())?;
-    let Plan {
+    let Reorganisation {
         fork,
         branch,
         change,
@@ -246,7 +253,7 @@ impl Chain {
             ⊎ ((Err fault, self.new) ≡ joined self.old kept)) }
         ensures unchanged { result ≡ Err Memory → self.new ≡ self.old }
     {
-        let Plan {
+        let Reorganisation {
             fork,
             branch,
             change,
@@ -255,7 +262,7 @@ impl Chain {
         let undo = match self.ledger.connect(kept.block()) {
             Ok(undo) => undo,
             Err(fault) => {
-                let stop = Stop { place: last, fault };
+                let stop = BranchFault { place: last, fault };
                 mark_stop(&mut self.tree, spot.block_index(Some(kept)), stop);
                 return Err(fault);
             }

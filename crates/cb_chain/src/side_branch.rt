@@ -23,7 +23,7 @@ const MOST_BELOW: u32 = 1_000;
 
 /// The place of the first block that can't be connected, and why.
 #[derive(Clone, Copy)]
-pub(crate) struct Stop {
+pub(crate) struct BranchFault {
     pub(crate) place: usize,
     pub(crate) fault: Fault,
 }
@@ -32,10 +32,15 @@ pub(crate) struct Stop {
 /// that lead from the UTXO set after the tip to the one after that block. It moves up and down the
 /// tree block by block. So a further block on a branch that was tried costs only what that block
 /// costs.
-#[derive(Drop)]
 pub(crate) struct SideBranch {
     pub(crate) end: usize,
     pub(crate) overlay: Overlay,
+}
+
+impl Drop for SideBranch {
+    fn drop(self) {
+        let SideBranch { end: _, overlay: _ } = self;
+    }
 }
 
 impl SideBranch {
@@ -154,7 +159,7 @@ impl SideBranch {
         ledger: &Ledger,
         tree: &mut Tree,
         target: usize,
-    ) -> Result<(), Stop>
+    ) -> Result<(), BranchFault>
         requires tree { IsTree tree.old.block_indexes }
         requires undos { AreUndos (tree_of tree.old.block_indexes) tree.old.undos }
         requires side_branch { IsSideBranch (tree_of tree.old.block_indexes) tree.old.undos
@@ -173,7 +178,7 @@ impl SideBranch {
     {
         let down = match self.lower_to(alloc, tree, target) {
             Ok(down) => down,
-            Err(fault) => return Err(Stop { place: 0, fault }),
+            Err(fault) => return Err(BranchFault { place: 0, fault }),
         };
         let mut left = down.len();
         while left > 0 {
@@ -181,7 +186,7 @@ impl SideBranch {
             let place = down[left];
             match self.raise(ledger, tree, place) {
                 Ok(()) => {}
-                Err(fault) => return Err(Stop { place, fault }),
+                Err(fault) => return Err(BranchFault { place, fault }),
             }
         }
         Ok(())
@@ -196,7 +201,7 @@ impl SideBranch {
         tree: &mut Tree,
         parent: usize,
         kept: &Kept,
-    ) -> Result<Undo, Stop>
+    ) -> Result<Undo, BranchFault>
         requires tree { IsTree tree.old.block_indexes }
         requires undos { AreUndos (tree_of tree.old.block_indexes) tree.old.undos }
         requires side_branch { IsSideBranch (tree_of tree.old.block_indexes) tree.old.undos
@@ -221,7 +226,7 @@ impl SideBranch {
         self.reach(alloc, ledger, tree, parent)?;
         match self.overlay.connect(ledger, kept.block()) {
             Ok(undo) => Ok(undo),
-            Err(fault) => Err(Stop {
+            Err(fault) => Err(BranchFault {
                 place: tree.len(),
                 fault,
             }),

@@ -18,7 +18,6 @@ use std::marker::Model;
 /// The headers and blocks in the order in which they were added, so a header comes before its
 /// children. Contracts see the list of the block indexes, the undo records at their places, and for
 /// how many more block indexes there is room.
-#[derive(Drop)]
 pub(crate) struct Tree {
     alloc: Global,
     // The block indexes without their marks. Copies share them.
@@ -66,6 +65,21 @@ impl Model for Tree {
         tree.elder.items
         × (vec_len tree.marks ≤ vec_capacity tree.found)
         × (length tree.block_indexes.block_indexes ≡ vec_len tree.marks) };
+}
+
+impl Drop for Tree {
+    fn drop(self) {
+        let Tree {
+            alloc: _,
+            block_indexes: _,
+            marks: _,
+            places: _,
+            newest: _,
+            elder: _,
+            undos: _,
+            found: _,
+        } = self;
+    }
 }
 
 /// The block index of the genesis block.

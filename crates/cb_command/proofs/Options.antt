@@ -10,8 +10,8 @@ use Rattle.std.proofs.lemmas.Slice.Eq.{bytes_eq-Decides}
 use Rattle.clap.specs.Words.{Row, Text, first_of, first_value, found_of, rows_of, subcommand_name_of, subcommand_rows_of}
 use Rattle.clap.proofs.WalkLemmas.{first_value-rows}
 use Rattle.clap.specs.declared.parser.matches.ArgMatches.{ArgMatches}
-use Rattle.cb_run.specs.Words.{number_in}
-use Rattle.cb_run.proofs.WordLemmas.{none_is_no_some, number_none, number_some, some_is}
+use Rattle.cb_control.specs.Words.{number_in}
+use Rattle.cb_control.proofs.WordLemmas.{none_is_no_some, number_none, number_some, some_is}
 use Rattle.cb_command.specs.NodeWords.{node_rows, rows_in}
 use Rattle.cb_command.proofs.Entering.{name_of_rows}
 

@@ -4,11 +4,11 @@ use Rattle.std.specs.Io.KnownBytes.{Appends}
 use Rattle.std.specs.Prelude.{if◌then◌else◌}
 use Rattle.std.specs.Str.{bytes_eq}
 use Rattle.clap.specs.Words.{fault_of}
-use Rattle.cb_run.specs.declared.ending.Status.{Status}
-use Rattle.cb_run.specs.declared.ending.Halt.{Halt}
-use Rattle.cb_run.specs.declared.ending.Halt.TheVariants.{Memory, ReadFailed, WriteFailed}
-use Rattle.cb_run.specs.Ending.{HasCause, status_code}
-use Rattle.cb_run.specs.Report.{ReportsKnown}
+use Rattle.cb_control.specs.declared.ending.Status.{Status}
+use Rattle.cb_control.specs.declared.ending.Halt.{Halt}
+use Rattle.cb_control.specs.declared.ending.Halt.TheVariants.{Memory, ReadFailed, WriteFailed}
+use Rattle.cb_control.specs.Ending.{HasCause, status_code}
+use Rattle.cb_commands.specs.Report.{ReportsKnown}
 use Rattle.cb_driver.specs.declared.running.RunOrders.{RunOrders}
 use Rattle.cb_command.specs.Command.{EndsEarly, EndsNet, EndsNode, Halts, HasNodeCause, PrintsReport, code_of}
 use Rattle.cb_command.specs.Words.{AreAsked, ByTask, entered, net_asked, program, task_in, task_named}
@@ -16,9 +16,9 @@ use Rattle.cb_command.specs.declared.commanding.Task.{Task}
 use Rattle.cb_command.specs.declared.commanding.Task.TheVariants.{Decode, Serve, Sim, Run, Node, Net}
 use Rattle.cb_command.specs.declared.node_words.BadWords.{BadWords}
 use Rattle.cb_net_plan.specs.declared.settings.NetSettings.{NetSettings}
-use Rattle.cb_net_words.specs.declared.bad_net.BadNet.{BadNet}
+use Rattle.cb_net_plan.specs.declared.bad_net.BadNet.{BadNet}
 use Rattle.cb_process.specs.declared.orders.NodeOrders.{NodeOrders}
-use Rattle.cb_run_net.specs.Playing.{EndsShort}
+use Rattle.cb_net.specs.Playing.{EndsShort}
 
 -- a run with its status, or one that ended early
 pub done : (Prints : ℕ → Type 0) (Same : Type 0) (input : Option (List ℕ)) (read_failed write_failed : Bool) (told tells : Option (List ℕ)) (failed : Bool) (ended : Result ℕ Halt) (code : ℕ) → IfOk ended Prints

@@ -4,11 +4,11 @@ use Rattle.std.proofs.lemmas.List.{append-nil}
 use Rattle.std.specs.Io.KnownBytes.{Appends}
 use Rattle.cb_base.proofs.Known.{Appends-then}
 use Rattle.cb_peer_state.specs.declared.state.CloseReason.{CloseReason}
-use Rattle.cb_run.specs.declared.ending.Status.{Status}
-use Rattle.cb_run.specs.declared.ending.Status.TheVariants.{RunFailed}
-use Rattle.cb_run.specs.declared.ending.Halt.{Halt}
-use Rattle.cb_run.specs.declared.ending.Halt.TheVariants.{ReadFailed, WriteFailed}
-use Rattle.cb_run.specs.Ending.{status_code}
+use Rattle.cb_control.specs.declared.ending.Status.{Status}
+use Rattle.cb_control.specs.declared.ending.Status.TheVariants.{RunFailed}
+use Rattle.cb_control.specs.declared.ending.Halt.{Halt}
+use Rattle.cb_control.specs.declared.ending.Halt.TheVariants.{ReadFailed, WriteFailed}
+use Rattle.cb_control.specs.Ending.{status_code}
 use Rattle.cb_command.specs.Command.{EndsEarly, TellsPeer, code_of, end_line}
 use Rattle.cb_command.specs.Peer.{PeerEnds, closed_text, peer_end}
 

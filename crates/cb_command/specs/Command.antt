@@ -2,13 +2,13 @@
 use Rattle.std.specs.Prelude.{◌≡◌, ℕ, Bool, true, false, ◌⊎◌, ⊤, List, [], ◌++◌, codes, Option, Result, Ok, Err}
 use Rattle.std.specs.Io.KnownBytes.{Appends}
 use Rattle.cb_peer_state.specs.declared.state.CloseReason.{CloseReason}
-use Rattle.cb_run.specs.declared.ending.Status.{Status}
-use Rattle.cb_run.specs.declared.ending.Status.TheVariants.{Usage, RunFailed}
-use Rattle.cb_run.specs.declared.ending.Halt.{Halt}
-use Rattle.cb_run.specs.declared.ending.Halt.TheVariants.{Memory, TooManyLines, ReadFailed, WriteFailed}
-use Rattle.cb_run.specs.Ending.{HasCause, status_code, halt_status, halt_line}
-use Rattle.cb_run.specs.Report.{ReportsKnown}
-use Rattle.cb_run_net.specs.Playing.{EndsShort}
+use Rattle.cb_control.specs.declared.ending.Status.{Status}
+use Rattle.cb_control.specs.declared.ending.Status.TheVariants.{Usage, RunFailed}
+use Rattle.cb_control.specs.declared.ending.Halt.{Halt}
+use Rattle.cb_control.specs.declared.ending.Halt.TheVariants.{Memory, TooManyLines, ReadFailed, WriteFailed}
+use Rattle.cb_control.specs.Ending.{HasCause, status_code, halt_status, halt_line}
+use Rattle.cb_commands.specs.Report.{ReportsKnown}
+use Rattle.cb_net.specs.Playing.{EndsShort}
 use Rattle.cb_control.specs.declared.verdict.Verdict.{Verdict}
 use Rattle.cb_command.specs.declared.node_words.BadWords.{BadWords}
 use Rattle.cb_command.specs.NodeWords.{bad_words_text}

@@ -9,9 +9,9 @@ use Rattle.std.specs.declared.net.ip_addr.IpAddr.{IpAddr}
 use Rattle.clap.specs.Words.{App, Row, Rule, first_of, found_of, new_app, new_rule, rows_of, with_rule}
 use Rattle.clap.specs.declared.builder.action.ArgAction.TheVariants.{Append}
 use Rattle.clap.specs.declared.builder.value_parser.ValueParser.TheVariants as parsers
-use Rattle.cb_limits.specs.Limits.{dialled_of}
-use Rattle.cb_limits.specs.declared.limits.Limits.{Limits}
-use Rattle.cb_run.specs.Words.{number_in}
+use Rattle.cb_process.specs.Limits.{dialled_of}
+use Rattle.cb_process.specs.declared.limits.Limits.{Limits}
+use Rattle.cb_control.specs.Words.{number_in}
 use Rattle.clap.specs.declared.parser.matches.ArgMatches.{ArgMatches}
 use Rattle.cb_command.specs.RpcWords.{IsRpc, is_set, with_rpc}
 use Rattle.cb_command.specs.declared.node_words.BadWords.{BadWords}

@@ -1,7 +1,7 @@
 -- The outcome of `serve` for its peer.
 use Rattle.std.specs.Prelude.{◌≡◌, ℕ, pos, Bool, true, false, ◌⊎◌, List, [], ◌∷◌, ◌++◌, codes, Option, Result, Ok, Err}
 use Rattle.std.specs.Io.KnownBytes.{Appends}
-use Rattle.cb_journal.specs.Journal.{JournalState, new_journal}
+use Rattle.cb_hall.specs.Journal.{JournalState, new_journal}
 use Rattle.cb_hall.specs.Badge.{BadgeState, first_of, fresh_badge}
 use Rattle.cb_hall.specs.Histories.{Asks, IsRefused}
 use Rattle.cb_peer_state.specs.declared.state.State.TheVariants.{Closed}
@@ -12,10 +12,10 @@ use Rattle.cb_trace.specs.Trace.{TraceView}
 use Rattle.cb_base.specs.declared.read_end.ReadEnd.{ReadEnd}
 use Rattle.cb_session.specs.Conversation.{Origin, origin_of, progress}
 use Rattle.cb_session.specs.Serving.{Serves}
-use Rattle.cb_run.specs.declared.ending.Status.{Status}
-use Rattle.cb_run.specs.declared.ending.Status.TheVariants.{Success, RunFailed, NoMemory}
-use Rattle.cb_run.specs.declared.ending.Halt.{Halt}
-use Rattle.cb_run.specs.declared.ending.Halt.TheVariants.{ReadFailed, WriteFailed}
+use Rattle.cb_control.specs.declared.ending.Status.{Status}
+use Rattle.cb_control.specs.declared.ending.Status.TheVariants.{Success, RunFailed, NoMemory}
+use Rattle.cb_control.specs.declared.ending.Halt.{Halt}
+use Rattle.cb_control.specs.declared.ending.Halt.TheVariants.{ReadFailed, WriteFailed}
 
 -- Where serving begins: the peer's settings, a new hall that nobody has asked anything, and the
 -- badge of the first connection of peer 0.

@@ -10,9 +10,9 @@ use Rattle.cb_command.specs.declared.commanding.Task.TheVariants.{Decode, Serve,
 use Rattle.cb_command.specs.declared.node_words.BadWords.{BadWords}
 use Rattle.cb_command.specs.NodeWords.{HasSizes, IsNodeOrders, node_line, node_rows}
 use Rattle.cb_net_plan.specs.declared.settings.NetSettings.{NetSettings}
-use Rattle.cb_net_words.specs.NetLine.{net_line}
-use Rattle.cb_net_words.specs.NetWords.{asked_settings, net_rows}
-use Rattle.cb_net_words.specs.declared.bad_net.BadNet.{BadNet}
+use Rattle.cb_net_plan.specs.NetLine.{net_line}
+use Rattle.cb_net_plan.specs.NetWords.{asked_settings, net_rows}
+use Rattle.cb_net_plan.specs.declared.bad_net.BadNet.{BadNet}
 use Rattle.cb_process.specs.declared.orders.NodeOrders.{NodeOrders}
 
 -- A command that prints its version.

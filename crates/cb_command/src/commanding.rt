@@ -4,14 +4,14 @@ ghost use Rattle.std.specs.Prelude.{◌≡◌, ◌⊎◌, ◌≤◌, ℕ, true, 
 ghost use Rattle.std.specs.Io.KnownBytes.{Appends};
 ghost use Rattle.cb_peer_state.specs.declared.state.CloseReason.{CloseReason};
 ghost use Rattle.cb_peer_state.specs.declared.state.CloseReason.TheVariants as reasons;
-ghost use Rattle.cb_run.specs.declared.ending.Halt.TheVariants.{Memory, ReadFailed, WriteFailed};
-ghost use Rattle.cb_run.specs.declared.ending.Status.TheVariants.{Usage};
+ghost use Rattle.cb_control.specs.declared.ending.Halt.TheVariants.{Memory, ReadFailed, WriteFailed};
+ghost use Rattle.cb_control.specs.declared.ending.Status.TheVariants.{Usage};
 ghost use Rattle.cb_command.specs.Command.{PrintsReport, EndsEarly, EndsNet, Halts, Refuses, RunsNode, TellsPeer, code_of, end_line};
-ghost use Rattle.cb_run.specs.Ending.{halt_status};
+ghost use Rattle.cb_control.specs.Ending.{halt_status};
 ghost use Rattle.cb_command.specs.Peer.{WasServed};
 ghost use Rattle.cb_net_plan.specs.Settings.{usual_settings};
-ghost use Rattle.cb_run.specs.SimInput.{SimulatesKnown};
-ghost use Rattle.cb_run_net.specs.Playing.{RunsNet};
+ghost use Rattle.cb_commands.specs.SimInput.{SimulatesKnown};
+ghost use Rattle.cb_net.specs.Playing.{RunsNet};
 ghost use Rattle.cb_command.specs.Words.{AreAsked, AreRefused, AreWithin, ByTask, IsWithin, flag, net_asked, node_program, plain_program, program, scripted_program, sized, task_in, task_named};
 ghost use Rattle.cb_driver.specs.Auditing.{IsOfAnEnd};
 ghost use Rattle.cb_driver.specs.Summary.{AreReported, RunsKnown};
@@ -24,20 +24,19 @@ ghost use Rattle.clap.specs.declared.error.kind.ErrorKind.TheVariants.{OutOfMemo
 
 use crate::node_words::{BadWords, node_line, node_orders_of};
 use crate::serve::serve_peer;
-use cb_base::{Out, Seed, Shared, Sink, Source};
-use cb_driver::{RunOrders, Sizes, run_nodes};
-use cb_net_plan::NetSettings;
-use cb_net_words::{BadNet, net_line, net_settings_of};
+use cb_base::{Seed, Shared, Sink, Source};
+use cb_commands::{decode, simulate};
+use cb_control::{Halt, Status, write_all};
+use cb_driver::{RunOrders, RunSizes, run_nodes};
+use cb_net::{Progress, run_net};
+use cb_net_plan::{BadNet, NetSettings, net_line, net_settings_of};
 use cb_node_process::run_node;
+use cb_peer_state::MessageSink;
 use cb_pipes::Pipes;
 use cb_process::{NodeOrders, ProcessHost};
-use cb_run::{Halt, Status, decode, simulate, write_all};
-use cb_run_net::{Progress, run_net};
-use cb_talk::MessageSink;
 use clap::error::ErrorKind;
 use clap::{Arg, ArgAction, ArgMatches, Command, value_parser};
 use std::alloc::{AllocError, Global};
-use std::rt::Stderr;
 
 /// The command that a command line names.
 #[derive(Drop)]
@@ -102,70 +101,8 @@ its connections tell one history.
 Example:
   printf 'link 0 1\\nmine 0\\nwait\\n' | cbrelay run --nodes 2 --handlers 1";
 
-/// Runs the command that the words name, and returns the exit status, the code of a `Status`.
-///
-/// The first word is the program's name. All input is read from `reader`. Output goes to `writer`.
-/// Messages about the command line, about want of memory, and about a failed read or write, go to
-/// `errors`; `serve` also prints there why its session ended, and `node` why it can't listen.
-/// `node` reads standard input and logs on standard error by `rt`, and looks at `pipes`, which it
-/// tells when its end is asked for. The tables of the halls of `serve`, `run` and `node` have the
-/// fixed seed, so that a run takes the same steps each time. `net` doesn't tell how far it is.
-pub fn command<N: ProcessHost, R: Source, W: MessageSink, E: Sink>(
-    rt: N,
-    alloc: Global,
-    words: Vec<String>,
-    pipes: &Shared<Pipes>,
-    reader: &mut R,
-    writer: &mut W,
-    errors: &mut E,
-) -> u8
-    // For every reader, writer and standard error: if the status is 1, clap refuses the words.
-    // Nothing was read, and nothing was written to `writer`.
-    ensures refused { result ≡ 1 →
-        AreRefused (map string_bytes words.items) × (reader.new ≡ reader.old)
-        × (writer.new ≡ writer.old) }
-    // Either the words were refused. Or memory ran out before the command began. Or clap finds no
-    // fault in the words, and the command ended normally or ended early for a cause.
-    ensures ran { (AreRefused (map string_bytes words.items)
-        × Refuses (E.has_failed errors.new) result × (reader.new ≡ reader.old)
-        × (writer.new ≡ writer.old))
-        ⊎ ((EndsEarly (E.contents errors.old) (E.contents errors.new)
-        (E.has_failed errors.new) result Memory × (reader.new ≡ reader.old)
-        × (writer.new ≡ writer.old))
-        ⊎ ((fault_of program (map string_bytes words.items) ≡ [])
-        × ((orders : RunOrders) × (node : Result NodeOrders BadWords)
-        × AreAsked orders node (map string_bytes words.items)
-        × ByTask (task_in orders node (map string_bytes words.items))
-        ((PrintsReport (R.remaining reader.old) (W.contents writer.old)
-        (W.contents writer.new) result × (errors.new ≡ errors.old))
-        ⊎ Halts (R.remaining reader.old) (R.has_failed reader.new) (W.has_failed writer.new)
-        (E.contents errors.old) (E.contents errors.new) (E.has_failed errors.new) result)
-        ((reason : CloseReason)
-        × (WasServed (R.remaining reader.old) (R.remaining reader.new) (R.has_failed reader.new)
-        (W.contents writer.old) (W.contents writer.new) (W.has_failed writer.old)
-        (W.has_failed writer.new) reason
-        ⊎ ((reason ≡ reasons.Memory) × (reader.new ≡ reader.old) × (writer.new ≡ writer.old)))
-        × TellsPeer (R.has_failed reader.new) (W.has_failed writer.new) (E.contents errors.old)
-        (E.contents errors.new) (E.has_failed errors.new) result reason)
-        ((SimulatesKnown (R.remaining reader.old) (W.contents writer.old)
-        (W.contents writer.new) result × (errors.new ≡ errors.old))
-        ⊎ Halts (R.remaining reader.old) (R.has_failed reader.new) (W.has_failed writer.new)
-        (E.contents errors.old) (E.contents errors.new) (E.has_failed errors.new) result)
-        ((RunsKnown (AreReported N) orders.sizes.nodes orders.stats (R.remaining reader.old)
-        (W.contents writer.old) (W.contents writer.new) result × (errors.new ≡ errors.old))
-        ⊎ Halts (R.remaining reader.old) (R.has_failed reader.new) (W.has_failed writer.new)
-        (E.contents errors.old) (E.contents errors.new) (E.has_failed errors.new) result)
-        ((reader.new ≡ reader.old)
-        × RunsNode (IsOfAnEnd N) (errors.new ≡ errors.old) (W.contents writer.old)
-        (W.contents writer.new) (W.has_failed writer.new) (E.contents errors.old)
-        (E.contents errors.new) (E.has_failed errors.new) node result)
-        ((reader.new ≡ reader.old)
-        × (RunsNet (writer.new ≡ writer.old) (errors.new ≡ errors.old) (W.contents writer.old)
-        (W.contents writer.new) (E.contents errors.old) (E.contents errors.new)
-        (net_asked (map string_bytes words.items)) result
-        ⊎ EndsNet (W.has_failed writer.new) (E.contents errors.old) (E.contents errors.new)
-        (E.has_failed errors.new) result))))) }
-    // The words and their commands.
+/// Words and the commands that they name. Clap accepts them.
+pub fn words_name_commands()
     ensures named { (orders : RunOrders) (node : Result NodeOrders BadWords) (name : List ℕ) →
         (task_in orders node (name ∷ []) ≡ Task.Decode)
         × (task_in orders node (name ∷ codes "decode" ∷ []) ≡ Task.Decode)
@@ -176,7 +113,6 @@ pub fn command<N: ProcessHost, R: Source, W: MessageSink, E: Sink>(
         × (task_in orders node (name ∷ codes "node" ∷ []) ≡ Task.Node node)
         × (task_in orders node (name ∷ codes "net" ∷ codes "--nodes" ∷ codes "5" ∷ [])
         ≡ Task.Net (Ok (usual_settings 5))) }
-    // Clap accepts these words.
     ensures taken { (name : List ℕ) →
         (takes program (name ∷ []) ≡ true) × (takes program (name ∷ codes "decode" ∷ []) ≡ true)
         × (takes program (name ∷ codes "serve" ∷ []) ≡ true)
@@ -184,25 +120,18 @@ pub fn command<N: ProcessHost, R: Source, W: MessageSink, E: Sink>(
         × (takes program (name ∷ codes "run" ∷ codes "--nodes" ∷ codes "8" ∷ codes "--handlers"
         ∷ codes "16" ∷ []) ≡ true) × (takes program (name ∷ codes "node" ∷ []) ≡ true)
         × (takes program (name ∷ codes "net" ∷ codes "--nodes" ∷ codes "5" ∷ []) ≡ true) }
-{
-    let mut progress: Progress<Out<Stderr>> = Progress::new(None);
-    seeded_command(
-        rt,
-        alloc,
-        Seed::fixed(),
-        words,
-        pipes,
-        reader,
-        writer,
-        errors,
-        &mut progress,
-    )
-}
+{}
 
-/// As `command`. The tables of the halls of `serve`, `run` and `node` have this seed, which changes
-/// no result. Peers choose the keys of these tables, so a seed that no peer knows keeps a lookup
-/// short. Meanwhile `net` tells by `progress` how far it is.
-pub fn seeded_command<N: ProcessHost, R: Source, W: MessageSink, E: Sink, P: Sink>(
+/// Runs the command that the words name, and returns the exit status, the code of a `Status`.
+///
+/// The first word is the program's name. All input is read from `reader`. Output goes to `writer`.
+/// Messages about the command line, about want of memory, and about a failed read or write, go to
+/// `errors`; `serve` also prints there why its session ended, and `node` why it can't listen.
+/// `node` reads standard input and logs on standard error by `rt`, and looks at `pipes`, which it
+/// tells when its end is asked for. The tables of the halls of `serve`, `run` and `node` have this
+/// seed, which changes no result. Peers choose the keys of these tables, so a seed that no peer
+/// knows keeps a lookup short. Meanwhile `net` tells by `progress` how far it is.
+pub fn command<N: ProcessHost, R: Source, W: MessageSink, E: Sink, P: Sink>(
     rt: N,
     alloc: Global,
     seed: Seed,
@@ -551,14 +480,14 @@ fn orders_of(matches: &ArgMatches) -> RunOrders
 {
     match matches.subcommand_matches("run") {
         Some(run) => RunOrders {
-            sizes: Sizes {
+            sizes: RunSizes {
                 nodes: size_of(run, "nodes", 8),
                 handlers: size_of(run, "handlers", 16),
             },
             stats: run.get_flag("stats"),
         },
         None => RunOrders {
-            sizes: Sizes {
+            sizes: RunSizes {
                 nodes: 1,
                 handlers: 1,
             },

@@ -7,9 +7,9 @@ mod node_words;
 mod rpc_words;
 mod serve;
 
-pub use cb_run_net::Progress;
+pub use cb_net::Progress;
 pub use commanding::{
-    Task, command, names_node, refuse_for_memory, refuse_foreign, refuse_unseeded, seeded_command,
-    with_password,
+    Task, command, names_node, refuse_for_memory, refuse_foreign, refuse_unseeded, with_password,
+    words_name_commands,
 };
 pub use node_words::BadWords;

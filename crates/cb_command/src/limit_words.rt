@@ -2,10 +2,10 @@
 ghost use Rattle.std.specs.Prelude.{◌≡◌, ◌≤◌, ◌^◌, codes, false, option_map, IfOk};
 ghost use Rattle.clap.specs.Words.{app_of, first_of, rule_of};
 ghost use Rattle.std.specs.Str.Parse.{without_leading_plus};
-ghost use Rattle.cb_run.specs.Words.{number_in};
+ghost use Rattle.cb_control.specs.Words.{number_in};
 ghost use Rattle.cb_command.specs.NodeWords.{AreLimits, IsUsualShare, Shares, in_bounds, millis_or, number_or, number_told, numbered, numbered_from, rows_in, with_limits};
 
-use cb_limits::Limits;
+use cb_process::Limits;
 use clap::{Arg, ArgMatches, Command, value_parser};
 use std::alloc::{AllocError, Global};
 use std::net::IpAddr;

@@ -4,19 +4,19 @@
 
 ghost use Rattle.std.specs.Prelude.{◌≡◌, ◌⊎◌, true, List, [], ◌∷◌, ◌++◌, OnOk, OnErr, IfSome, IsOkUnless};
 ghost use Rattle.std.specs.Io.KnownBytes.{Appends};
-ghost use Rattle.cb_journal.specs.Journal.{new_journal};
+ghost use Rattle.cb_hall.specs.Journal.{new_journal};
 ghost use Rattle.cb_hall.specs.Badge.{BadgeState, first_of, fresh_badge};
 ghost use Rattle.cb_peer_state.specs.State.{is_closed};
 ghost use Rattle.cb_peer_state.specs.declared.state.CloseReason.{CloseReason};
 ghost use Rattle.cb_peer_state.specs.declared.state.CloseReason.TheVariants as reasons;
 ghost use Rattle.cb_peer_state.specs.declared.state.State.TheVariants.{Closed};
-ghost use Rattle.cb_run.specs.declared.ending.Halt.TheVariants.{WriteFailed};
+ghost use Rattle.cb_control.specs.declared.ending.Halt.TheVariants.{WriteFailed};
 ghost use Rattle.cb_command.specs.Peer.{WasServed, PeerEnds, closed_text, peer_end, reason_status};
 
 use cb_base::{Seed, Sink, Source};
-use cb_run::{Halt, Status, write_all};
+use cb_control::{Halt, Status, write_all};
+use cb_peer_state::MessageSink;
 use cb_session::{Badge, CloseReason, Hall, Settings, State, serve};
-use cb_talk::MessageSink;
 use std::alloc::Global;
 
 /// The session's settings. The peer made the connection. The rest is fixed, so that a run can be

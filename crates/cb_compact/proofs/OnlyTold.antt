@@ -1,6 +1,6 @@
 -- What is told as sound is the only block under its header, where hashes don't collide.
 use Rattle.std.proofs.Common.{◌≡◌, ℕ, List, [], refl, sym, ap, ◌∙◌, subst}
-use Rattle.cb_tx.specs.declared.tx.Tx.{Tx}
+use Rattle.cb_block.specs.declared.tx.Tx.{Tx}
 use Rattle.cb_block.specs.declared.block.Block.{Block}
 use Rattle.cb_block.specs.declared.header.Header.{Header}
 use Rattle.cb_block.specs.Blocks.{texts, IsSoundBlock}

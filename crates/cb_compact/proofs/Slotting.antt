@@ -4,8 +4,8 @@ use Rattle.std.proofs.lemmas.List.{drop-map, length-map}
 use Rattle.std.specs.Option.{is_some}
 use Rattle.cb_base.specs.declared.fault.Fault.{Fault}
 use Rattle.cb_base.specs.declared.fault.Fault.TheVariants.{Empty, Size64, Mutated, BadRoot}
-use Rattle.cb_tx.specs.declared.tx.Tx.{Tx}
-use Rattle.cb_tx.specs.Text.{tx_text}
+use Rattle.cb_block.specs.declared.tx.Tx.{Tx}
+use Rattle.cb_block.specs.TxText.{tx_text}
 use Rattle.cb_block.specs.declared.block.Block.{Block}
 use Rattle.cb_block.specs.Blocks.{IsSoundBlock, IsUnsound}
 use Rattle.cb_compact.specs.Differences.{Rise}

@@ -6,7 +6,7 @@ use Rattle.std.proofs.lemmas.List.{map-append}
 use Rattle.std.proofs.lemmas.List.Elements.{filter-append}
 use Rattle.std.proofs.lemmas.List.Folds.{list_any-append}
 use Rattle.std.specs.Map.{lookup}
-use Rattle.cb_tx.specs.declared.tx.Tx.{Tx}
+use Rattle.cb_block.specs.declared.tx.Tx.{Tx}
 use Rattle.cb_compact.specs.Slots.{AreDifferent, choice, is_among, only_tx, with_id}
 use Rattle.cb_compact.specs.Tables.{ArePlaces, IsPlace, IsTable, all_found, found_of, found_tx, more_at, one_more, with_pair}
 use Rattle.cb_compact.specs.declared.named_tx.Pair.{Pair}

@@ -2,8 +2,8 @@
 -- rebuilt from them.
 use Rattle.std.specs.Prelude.{◌≡◌, ◌≢◌, ◌↔◌, ℕ, ◌≤◌, List, [], length, map, slice_get, All, Contains, Some}
 use Rattle.cb_base.specs.DoubleHash.{double_hash}
-use Rattle.cb_tx.specs.Text.{IsTx, tx_text}
-use Rattle.cb_tx.specs.declared.tx.Tx.{Tx}
+use Rattle.cb_block.specs.TxText.{IsTx, tx_text}
+use Rattle.cb_block.specs.declared.tx.Tx.{Tx}
 use Rattle.cb_block.specs.Blocks.{IsSoundBlock, texts}
 use Rattle.cb_block.specs.Soundness.{AreApart}
 use Rattle.cb_block.specs.declared.block.Block.{Block}

@@ -1,8 +1,15 @@
+pub mod Completing
 pub mod Differences
 pub mod Forms
 pub mod Honest
+pub mod HonestMessages
+pub mod Matching
+pub mod Places
 pub mod Placing
+pub mod Rebuilding
 pub mod Seeding
 pub mod ShortIds
+pub mod Shortening
+pub mod Sizes
 pub mod Slots
 pub mod Tables

@@ -1,6 +1,6 @@
 -- The result of rebuilding a compact block, and of filling in what was missing.
 use Rattle.std.specs.Prelude.{◌≡◌, ℕ, ◌<◌, List, [], length}
-use Rattle.cb_tx.specs.declared.tx.Tx.{Tx}
+use Rattle.cb_block.specs.declared.tx.Tx.{Tx}
 use Rattle.cb_block.specs.Blocks.{texts}
 use Rattle.cb_block.specs.Soundness.{IsSound}
 use Rattle.cb_block.specs.declared.header.Header.{Header}

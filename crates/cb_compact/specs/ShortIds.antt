@@ -5,7 +5,7 @@ use Rattle.std.specs.Int.{w64, from_le_bytes, to_le_bytes}
 use Rattle.sha2.specs.Sha256.{sha256}
 use Rattle.cb_base.specs.SipHash.{siphash_2_4}
 use Rattle.cb_base.specs.declared.hash.Hash256.{Hash256}
-use Rattle.cb_block.specs.Text.{header_text}
+use Rattle.cb_block.specs.BlockText.{header_text}
 use Rattle.cb_block.specs.declared.header.Header.{Header}
 
 -- the SHA-256 from which the key is made: of the header's 80 bytes and the nonce's 8

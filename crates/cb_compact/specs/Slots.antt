@@ -2,7 +2,7 @@
 -- missing, and the whole list. Pairs are candidates: transactions with their short ids.
 use Rattle.std.specs.Prelude.{◌≡◌, ℕ, ◌+◌, ◌-◌, ⊤, Bool, false, ◌==◌, List, [], ◌∷◌, ◌++◌, map, filter, take, drop, Option, Some, None}
 use Rattle.std.specs.List.{list_any}
-use Rattle.cb_tx.specs.declared.tx.Tx.{Tx}
+use Rattle.cb_block.specs.declared.tx.Tx.{Tx}
 use Rattle.cb_block.specs.declared.header.Header.{Header}
 use Rattle.cb_compact.specs.declared.form.Prefilled.{Prefilled}
 use Rattle.cb_compact.specs.declared.named_tx.Pair.{Pair}

@@ -1,7 +1,7 @@
 -- The table in which the short ids of pairs are looked up.
 use Rattle.std.specs.Prelude.{◌≡◌, ℕ, zero, suc, false, nat_eq, List, [], ◌∷◌, map, slice_get, Option, Some, None}
 use Rattle.std.specs.Map.{lookup}
-use Rattle.cb_tx.specs.declared.tx.Tx.{Tx}
+use Rattle.cb_block.specs.declared.tx.Tx.{Tx}
 use Rattle.cb_compact.specs.Slots.{is_among, with_id}
 use Rattle.cb_compact.specs.declared.named_tx.Pair.{Pair}
 use Rattle.cb_compact.specs.declared.table.Found.{Found}

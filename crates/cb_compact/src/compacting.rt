@@ -7,8 +7,7 @@ ghost use Rattle.cb_compact.specs.ShortIds.{short_id_of};
 use crate::form::{Compact, Prefilled};
 use crate::short_ids::{key, short_id};
 use cb_base::{Fault, Hash256, Shared};
-use cb_block::SoundBlock;
-use cb_tx::Tx;
+use cb_block::{SoundBlock, Tx};
 use std::alloc::Global;
 
 /// Whether `place` is the next of the places: the first that was not passed yet.

@@ -1,6 +1,5 @@
 use cb_base::Shared;
-use cb_block::Header;
-use cb_tx::Tx;
+use cb_block::{Header, Tx};
 
 /// A prefilled transaction of a compact block: the transaction itself, with its index in the block
 /// (place), from 0.

@@ -1,10 +1,10 @@
 ghost use Rattle.std.specs.Prelude.{◌≡◌, IfOk, IsOkUnless};
 ghost use Rattle.cb_base.specs.DoubleHash.{double_hash};
 ghost use Rattle.cb_base.specs.declared.fault.Fault.TheVariants.{Memory};
-ghost use Rattle.cb_tx.specs.Text.{tx_text};
+ghost use Rattle.cb_block.specs.TxText.{tx_text};
 
 use cb_base::{Fault, Hash256, Shared, dsha};
-use cb_tx::{Tx, write_tx};
+use cb_block::{Tx, write_tx};
 use std::alloc::{AllocError, Global};
 use std::marker::Model;
 
@@ -18,12 +18,12 @@ pub struct NamedTx {
 
 impl Model for NamedTx {
     ghost use Rattle.std.specs.Prelude.{◌≡◌};
-    ghost use Rattle.cb_tx.specs.declared.tx.Tx.{Tx};
+    ghost use Rattle.cb_block.specs.declared.tx.Tx.{Tx};
 
     ghost Value = { Tx };
 
     ghost use Rattle.cb_base.specs.DoubleHash.{double_hash};
-    ghost use Rattle.cb_tx.specs.Text.{tx_text};
+    ghost use Rattle.cb_block.specs.TxText.{tx_text};
 
     ghost view = { λ named. named.tx };
 

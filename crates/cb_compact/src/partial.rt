@@ -1,7 +1,7 @@
 ghost use Rattle.std.specs.Prelude.{◌≡◌, ◌≢◌, ◌⊎◌, ◌++◌, ◌∷◌, [], length, IfErr, IfOk, IsOkUnless, OnOk};
 ghost use Rattle.cb_base.specs.declared.fault.Fault.TheVariants.{Memory, WrongCount};
 ghost use Rattle.cb_base.specs.DoubleHash.{double_hash};
-ghost use Rattle.cb_tx.specs.Text.{tx_text};
+ghost use Rattle.cb_block.specs.TxText.{tx_text};
 ghost use Rattle.cb_block.specs.Blocks.{texts};
 ghost use Rattle.cb_block.specs.Soundness.{names};
 ghost use Rattle.cb_compact.specs.Placing.{IsFilled};
@@ -9,8 +9,7 @@ ghost use Rattle.cb_compact.specs.Slots.{filled, missing};
 
 use crate::named_tx::NamedTx;
 use cb_base::{Fault, Hash256, Shared};
-use cb_block::{Block, Header, SoundBlock, Txs, sound_by};
-use cb_tx::Tx;
+use cb_block::{Block, Header, SoundBlock, Tx, Txs, sound_by};
 use std::alloc::Global;
 use std::marker::Model;
 
@@ -60,12 +59,12 @@ impl Model for Partial {
 
 /// The transactions of a block, in order, and their txids.
 #[derive(Drop)]
-struct Listed {
+struct NamedTxs {
     txs: Vec<Shared<Tx>>,
     txids: Vec<Hash256>,
 }
 
-impl Listed {
+impl NamedTxs {
     /// Adds a transaction and its txid.
     fn push(&mut self, named: NamedTx) -> Result<(), Fault>
         ensures txs { OnOk result (self.new.txs.items ≡ self.old.txs.items ++ named ∷ []) }
@@ -86,13 +85,13 @@ fn fill_in(
     alloc: Global,
     slots: Vec<Option<NamedTx>>,
     given: &[Shared<Tx>],
-) -> Result<Listed, Fault>
+) -> Result<NamedTxs, Fault>
     requires { length given.now ≡ length (missing 0 slots.items) }
     ensures txs { IfOk result (λ listed. listed.txs.items ≡ filled slots.items given.now) }
     ensures names { IfOk result (λ listed. listed.txids.items ≡ names (texts listed.txs.items)) }
     ensures memory { IsOkUnless result Memory }
 {
-    let mut listed = Listed {
+    let mut listed = NamedTxs {
         txs: Vec::with_capacity(alloc, slots.len())?,
         txids: Vec::with_capacity(alloc, slots.len())?,
     };
@@ -125,12 +124,12 @@ pub(crate) fn whole(
 }
 
 /// Checks whether these transactions are sound under the header.
-fn judge(alloc: Global, header: Header, listed: Listed) -> Result<Filled, Fault>
+fn judge(alloc: Global, header: Header, listed: NamedTxs) -> Result<Filled, Fault>
     requires { listed.txids.items ≡ names (texts listed.txs.items) }
     ensures filled { IfOk result (IsFilled header listed.txs.items) }
     ensures memory { IsOkUnless result Memory }
 {
-    let Listed { txs, txids } = listed;
+    let NamedTxs { txs, txids } = listed;
     let txs = Txs::new(txs);
     let block = Shared::new(alloc, Block { header, txs })?;
     match sound_by(alloc, block, txids) {

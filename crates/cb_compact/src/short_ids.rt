@@ -1,6 +1,6 @@
 ghost use Rattle.std.specs.Prelude.{◌≡◌, ◌^◌, ◌<◌, ◌++◌, length};
 ghost use Rattle.std.specs.Int.{w64, to_le_bytes};
-ghost use Rattle.cb_block.specs.Text.{header_text};
+ghost use Rattle.cb_block.specs.BlockText.{header_text};
 ghost use Rattle.cb_compact.specs.ShortIds.{key_of, short_id_of};
 
 use cb_base::{Hash256, sha, sip24};

@@ -4,8 +4,8 @@ use Rattle.std.specs.Prelude.{IfSome, option_and_then}
 use Rattle.std.specs.Str.{bytes_eq}
 use Rattle.std.proofs.lemmas.Bool.{cases_Bool}
 use Rattle.std.proofs.lemmas.Slice.Eq.{bytes_eq-Decides}
-use Rattle.cb_run.specs.Words.{cut_of}
-use Rattle.cb_run.proofs.WordLemmas.{cut_parts}
+use Rattle.cb_control.specs.Words.{cut_of}
+use Rattle.cb_control.proofs.WordLemmas.{cut_parts}
 use Rattle.cb_control.specs.ScriptReading.{two_in}
 
 by_test : {A : Type 0} (P : A → Type 0) (b : Bool) (x y : Option A) → (b ≡ true → IfSome x P) → IfSome y P → IfSome (cond b x y) P

@@ -1,6 +1,9 @@
 pub mod Agents
+pub mod Counting
+pub mod Cutting
 pub mod Found
-pub mod Lines
+pub mod LineLemmas
 pub mod OrderRead
 pub mod ScriptRead
 pub mod Texts
+pub mod WordLemmas

@@ -7,8 +7,8 @@ use Rattle.std.specs.Net.Grammar.{IsSocketText}
 use Rattle.std.specs.declared.net.socket_addr.SocketAddr.{SocketAddr}
 use Rattle.std.proofs.lemmas.Slice.Eq.{bytes_eq-Decides}
 use Rattle.cb_base.specs.declared.fault.Fault.{Fault}
-use Rattle.cb_run.specs.Words.{cut_of, number_in}
-use Rattle.cb_run.proofs.WordLemmas.{cut_parts, none_is_no_some}
+use Rattle.cb_control.specs.Words.{cut_of, number_in}
+use Rattle.cb_control.proofs.WordLemmas.{cut_parts, none_is_no_some}
 use Rattle.cb_control.specs.declared.order.Deed.TheVariants as deeds
 use Rattle.cb_control.specs.declared.order.Order.{Order}
 use Rattle.cb_control.specs.declared.order.Order.TheVariants as orders

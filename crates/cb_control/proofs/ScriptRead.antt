@@ -2,8 +2,8 @@
 use Rattle.std.proofs.Common.{◌≡◌, ℕ, ◌^◌, ◌<◌, List, ◌∷◌, ◌++◌, Option, Some, None, Result, Ok, Err, IfOk, refl, sym, ap, subst, ◌∙◌}
 use Rattle.std.specs.Prelude.{IfSome, codes}
 use Rattle.std.specs.Str.{IsUtf8}
-use Rattle.cb_run.specs.Words.{cut_of, number_in}
-use Rattle.cb_run.proofs.WordLemmas.{NoSpace, cut_parts, cut_some, digits_no_space, none_is_no_some, number_read}
+use Rattle.cb_control.specs.Words.{cut_of, number_in}
+use Rattle.cb_control.proofs.WordLemmas.{NoSpace, cut_parts, cut_some, digits_no_space, none_is_no_some, number_read}
 use Rattle.cb_control.specs.declared.order.Deed.TheVariants as deeds
 use Rattle.cb_control.specs.declared.script_line.ScriptOrder.{ScriptOrder}
 use Rattle.cb_control.specs.declared.script_line.ScriptOrder.TheVariants.{Link, Wait, Obey}

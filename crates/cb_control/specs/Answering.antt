@@ -1,8 +1,8 @@
 -- What may be answered to each order.
 use Rattle.std.specs.Prelude.{◌≡◌, ◌≢◌, ◌⊎◌, ℕ}
 use Rattle.cb_base.specs.DoubleHash.{double_hash}
-use Rattle.cb_tx.specs.Text.{tx_text}
-use Rattle.cb_block.specs.Text.{header_text}
+use Rattle.cb_block.specs.TxText.{tx_text}
+use Rattle.cb_block.specs.BlockText.{header_text}
 use Rattle.cb_control.specs.declared.order.Deed.{Deed}
 use Rattle.cb_control.specs.declared.order.Deed.TheVariants as deeds
 use Rattle.cb_control.specs.declared.order.Order.{Order}

@@ -1,5 +1,7 @@
 pub mod Answering
 pub mod Counters
+pub mod Ending
+pub mod Lines
 pub mod OrderLine
 pub mod OrderReading
 pub mod Outcomes
@@ -8,4 +10,5 @@ pub mod Refusals
 pub mod ReplyText
 pub mod ScriptLine
 pub mod ScriptReading
+pub mod Words
 pub mod Written

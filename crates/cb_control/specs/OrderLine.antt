@@ -3,7 +3,7 @@ use Rattle.std.specs.Prelude.{◌≡◌, ℕ, ◌^◌, Bool, if◌then◌else◌
 use Rattle.std.specs.Str.{IsUtf8}
 use Rattle.std.specs.declared.net.socket_addr.SocketAddr.{SocketAddr}
 use Rattle.std.specs.Net.Grammar.{IsSocketText}
-use Rattle.cb_run.specs.Words.{number_in}
+use Rattle.cb_control.specs.Words.{number_in}
 use Rattle.cb_control.specs.declared.order.Deed.{Deed}
 use Rattle.cb_control.specs.declared.order.Deed.TheVariants.{Tx, Submit, Mine, Kick, Checkpoint}
 use Rattle.cb_control.specs.declared.order.Order.{Order}

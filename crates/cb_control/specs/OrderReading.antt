@@ -3,7 +3,7 @@ use Rattle.std.specs.Prelude.{◌≡◌, ℕ, ◌^◌, Bool, true, false, if◌t
 use Rattle.std.specs.Str.{bytes_eq}
 use Rattle.std.specs.declared.net.socket_addr.SocketAddr.{SocketAddr}
 use Rattle.std.specs.Net.Grammar.{IsSocketText}
-use Rattle.cb_run.specs.Words.{cut_of, number_in}
+use Rattle.cb_control.specs.Words.{cut_of, number_in}
 use Rattle.cb_control.specs.declared.order.Order.{Order}
 use Rattle.cb_control.specs.declared.order.Order.TheVariants.{Do, Tip, Block, Pool, Peers, Connect, Disconnect, Network, Stats, Restart, Quit}
 use Rattle.cb_control.specs.declared.order.Deed.TheVariants.{Tx, Submit, Mine, Kick, Checkpoint}

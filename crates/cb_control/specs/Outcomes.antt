@@ -1,10 +1,10 @@
 -- What is printed for a line of a script, and what it does to the exit status.
 use Rattle.std.specs.Prelude.{◌≡◌, ◌⊎◌, ℕ, Bool, true, false, ◌||◌, not, if◌then◌else◌, ⊤, List, [], ◌++◌, codes, Option, Some, None, Result, Ok, Err}
 use Rattle.std.specs.Fmt.{decimal}
-use Rattle.cb_run.specs.declared.ending.Halt.{Halt}
-use Rattle.cb_run.specs.declared.ending.Halt.TheVariants as halts
-use Rattle.cb_run.specs.declared.ending.Status.{Status}
-use Rattle.cb_run.specs.declared.ending.Status.TheVariants as statuses
+use Rattle.cb_control.specs.declared.ending.Halt.{Halt}
+use Rattle.cb_control.specs.declared.ending.Halt.TheVariants as halts
+use Rattle.cb_control.specs.declared.ending.Status.{Status}
+use Rattle.cb_control.specs.declared.ending.Status.TheVariants as statuses
 use Rattle.cb_control.specs.declared.refusal.Refusal.{Refusal}
 use Rattle.cb_control.specs.declared.refusal.Refusal.TheVariants.{Fault, NoSlot, Io, NotSettled}
 use Rattle.cb_control.specs.declared.script_line.ScriptOrder.{ScriptOrder}

@@ -1,8 +1,8 @@
 -- Why an order is refused: its words, and the exit status that tells of it.
 use Rattle.std.specs.Prelude.{ℕ, List, codes}
 use Rattle.cb_base.specs.Fault.{fault_text}
-use Rattle.cb_run.specs.declared.ending.Status.{Status}
-use Rattle.cb_run.specs.declared.ending.Status.TheVariants as statuses
+use Rattle.cb_control.specs.declared.ending.Status.{Status}
+use Rattle.cb_control.specs.declared.ending.Status.TheVariants as statuses
 use Rattle.cb_control.specs.declared.refusal.Refusal.{Refusal}
 use Rattle.cb_control.specs.declared.refusal.Refusal.TheVariants.{Unreadable, Fault, NoSlot, Io, NotSettled, UnknownBlock, Already, Own, NotDialled, Off, Memory}
 

@@ -1,7 +1,7 @@
 -- How a line of a script gives an order: the node's number stands behind the word.
 use Rattle.std.specs.Prelude.{◌≡◌, ℕ, ◌^◌, ◌<◌, ⊤, List, ◌∷◌, ◌++◌, codes, Option, Some, MatchOption}
 use Rattle.std.specs.Str.{IsUtf8}
-use Rattle.cb_run.specs.Words.{number_in}
+use Rattle.cb_control.specs.Words.{number_in}
 use Rattle.cb_control.specs.declared.order.Deed.{Deed}
 use Rattle.cb_control.specs.declared.order.Deed.TheVariants.{Tx, Submit, Mine, Kick, Checkpoint}
 use Rattle.cb_control.specs.declared.script_line.ScriptOrder.{ScriptOrder}

@@ -1,7 +1,7 @@
 -- A line of a script taken apart: the same as functions of the text.
 use Rattle.std.specs.Prelude.{ℕ, ◌^◌, if◌then◌else◌, List, codes, Option, Some, None, option_and_then, option_map}
 use Rattle.std.specs.Str.{bytes_eq}
-use Rattle.cb_run.specs.Words.{cut_of, number_in}
+use Rattle.cb_control.specs.Words.{cut_of, number_in}
 use Rattle.cb_control.specs.declared.order.Deed.TheVariants.{Tx, Submit, Mine, Kick, Checkpoint}
 use Rattle.cb_control.specs.declared.script_line.ScriptOrder.{ScriptOrder}
 use Rattle.cb_control.specs.declared.script_line.ScriptOrder.TheVariants.{Link, Wait, Obey}

@@ -1,15 +1,15 @@
 //! Orders as an operator's lines give them.
 ghost use Rattle.std.specs.Prelude.{◌≡◌, IfOk, IsOkUnless, option_map};
 ghost use Rattle.cb_base.specs.declared.fault.Fault.TheVariants.{Memory};
-ghost use Rattle.cb_run.specs.Words.{number_in};
+ghost use Rattle.cb_control.specs.Words.{number_in};
 ghost use Rattle.cb_control.specs.declared.order.Deed.TheVariants as deeds;
 ghost use Rattle.cb_control.specs.OrderLine.{ReadsOrder};
 ghost use Rattle.cb_control.specs.OrderReading.{IsAddress, IsLine, IsNamed, plain_order, switch_in};
 
 use crate::order::{Deed, MOST_MINED, Order};
+use crate::words::{cut, short};
 use crate::written::{read_block, read_hash, read_tx};
 use cb_base::Fault;
-use cb_run::{cut, short};
 use std::alloc::Global;
 use std::net::SocketAddr;
 

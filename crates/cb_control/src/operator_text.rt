@@ -3,17 +3,18 @@ ghost use Rattle.std.specs.Prelude.{◌≡◌, ◌++◌, true, IsOkUnless, OnErr
 ghost use Rattle.std.specs.Io.KnownBytes.{Appends};
 ghost use Rattle.std.specs.List.{flat_map};
 ghost use Rattle.cb_base.specs.declared.fault.Fault.TheVariants.{Memory};
-ghost use Rattle.cb_run.specs.declared.ending.Halt.TheVariants as halts;
+ghost use Rattle.cb_control.specs.declared.ending.Halt.TheVariants as halts;
 ghost use Rattle.cb_control.specs.declared.reply.Reply.{Reply};
 ghost use Rattle.cb_control.specs.OrderLine.{on_off};
 ghost use Rattle.cb_control.specs.ReplyText.{IsOr, block_text, count_line, hash_line, peer_text, reply_text, stats_text, tip_line, txid_line, verdict_text, yes_no};
 
+use crate::ending::Halt;
+use crate::output::write_all;
 use crate::peer_line::print_peer;
 use crate::reply::Reply;
 use crate::report::{BlockReport, PeerReport, StatsReport, Tip};
 use crate::verdict::Verdict;
 use cb_base::{Fault, Hash256, Sink};
-use cb_run::{Halt, write_all};
 use std::alloc::Global;
 
 /// Prints the lines of a reply, or `error memory` in their place if memory lacks for them. Fails

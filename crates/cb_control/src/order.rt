@@ -1,7 +1,6 @@
 //! What a node is asked to do.
 use cb_base::{Hash256, Shared};
-use cb_block::Block;
-use cb_tx::Tx;
+use cb_block::{Block, Tx};
 use std::net::SocketAddr;
 
 /// How many blocks one order mines at most.

@@ -2,8 +2,8 @@
 ghost use Rattle.std.specs.Prelude.{◌≡◌, Some};
 ghost use Rattle.cb_control.specs.Refusals.{refusal_status};
 
+use crate::ending::Status;
 use cb_base::Fault;
-use cb_run::Status;
 use std::fmt;
 
 /// Why an order was refused. Nothing was done then, but `Deed::Mine` keeps the blocks that it mined

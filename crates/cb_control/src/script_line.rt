@@ -1,17 +1,18 @@
 //! Orders as the lines of a script give them.
 ghost use Rattle.std.specs.Prelude.{◌≡◌, ◌^◌, IfOk, IfSome, IsOkUnless, option_map};
 ghost use Rattle.cb_base.specs.declared.fault.Fault.TheVariants.{Memory};
-ghost use Rattle.cb_run.specs.declared.ending.Halt.TheVariants as halts;
-ghost use Rattle.cb_run.specs.Words.{number_in};
+ghost use Rattle.cb_control.specs.declared.ending.Halt.TheVariants as halts;
+ghost use Rattle.cb_control.specs.Words.{number_in};
 ghost use Rattle.cb_control.specs.declared.order.Deed.TheVariants as deeds;
 ghost use Rattle.cb_control.specs.ScriptLine.{IsAmong, ReadsScript};
 ghost use Rattle.cb_control.specs.ScriptReading.{addressed_in, script_in, script_named, two_in};
 ghost use Rattle.cb_control.specs.Written.{block_in, tx_in};
 
+use crate::ending::Halt;
 use crate::order::Deed;
+use crate::words::{cut, short};
 use crate::written::{read_block, read_tx};
 use cb_base::Fault;
-use cb_run::{Halt, cut, short};
 use std::alloc::Global;
 
 /// What a line of a script has nodes do. They have the numbers 0, 1, and so on.

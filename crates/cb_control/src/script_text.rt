@@ -1,12 +1,13 @@
 //! What a script's user is told of its lines.
 ghost use Rattle.std.specs.Prelude.{◌≡◌, Err, IfErr, OnOk};
 ghost use Rattle.std.specs.Io.KnownBytes.{Appends};
-ghost use Rattle.cb_run.specs.declared.ending.Halt.TheVariants.{Memory};
+ghost use Rattle.cb_control.specs.declared.ending.Halt.TheVariants.{Memory};
 ghost use Rattle.cb_control.specs.Outcomes.{LacksOrFails, good, outcome_text, status_of, tally_after, tally_audited};
 
+use crate::ending::{Halt, Status};
+use crate::output::write_all;
 use crate::refusal::Refusal;
 use cb_base::Sink;
-use cb_run::{Halt, Status, write_all};
 use std::alloc::Global;
 
 /// Prints what became of the line with this number: nothing if it was done, else the number and why

@@ -2,7 +2,7 @@
 ghost use Rattle.std.specs.Prelude.{◌≡◌};
 ghost use Rattle.cb_control.specs.Outcomes.{agreement, says_yes};
 
-use cb_run::Halt;
+use crate::ending::Halt;
 
 /// What an audit answers: whether the hall's journal and the traces of its connections tell one
 /// history.

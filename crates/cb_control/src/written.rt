@@ -3,14 +3,13 @@ ghost use Rattle.std.specs.Prelude.{◌≡◌, IfOk, IsOkUnless, Result};
 ghost use Rattle.std.specs.Result.{result_ok};
 ghost use Rattle.cb_base.specs.declared.fault.Fault.{Fault};
 ghost use Rattle.cb_base.specs.declared.fault.Fault.TheVariants.{Memory};
-ghost use Rattle.cb_payload.specs.RoundTrip.{Gives};
+ghost use Rattle.cb_wire.specs.RoundTrip.{Gives};
 ghost use Rattle.cb_wire.specs.Command.{IsCommand};
 ghost use Rattle.cb_wire.specs.declared.message.Message.{Message};
 ghost use Rattle.cb_control.specs.Written.{block_in, hash_in, message_in, tx_in};
 
 use cb_base::{Fault, Hash256, Shared};
-use cb_block::Block;
-use cb_tx::Tx;
+use cb_block::{Block, Tx};
 use cb_wire::{Message, decode};
 use hex::FromHexError;
 use std::alloc::Global;

@@ -4,10 +4,10 @@ use Rattle.std.specs.List.{AllZip, flat_map, sum_by}
 use Rattle.std.proofs.lemmas.Bool.{false≢true}
 use Rattle.std.proofs.lemmas.List.{append-nil, append_assoc, length-append}
 use Rattle.std.proofs.lemmas.List.Sums.{sum_by-cons}
-use Rattle.cb_sched.specs.Laws.{IsBeginning}
-use Rattle.cb_inbox.specs.declared.queued.Queued.{Queued}
-use Rattle.cb_inbox.specs.declared.queued.Queued.TheVariants as queued
-use Rattle.cb_inbox.specs.Queued.{is_open}
+use Rattle.cb_crew.specs.Laws.{IsBeginning}
+use Rattle.cb_crew.specs.declared.queued.Queued.{Queued}
+use Rattle.cb_crew.specs.declared.queued.Queued.TheVariants as queued
+use Rattle.cb_crew.specs.Queued.{is_open}
 use Rattle.cb_crew.specs.declared.work.Given.{Given}
 use Rattle.cb_crew.specs.Work.{IsGivenMore, IsGivenNone, connections_of, given_by, go_on, last_of}
 use Rattle.cb_crew.specs.Desk.{DeskState, WereGiven}

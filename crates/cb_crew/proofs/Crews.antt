@@ -4,7 +4,7 @@ use Rattle.std.specs.List.{All, range_with_len, sum_by}
 use Rattle.std.proofs.lemmas.List.{get_or-map, length-map, map-append}
 use Rattle.std.proofs.lemmas.List.FromFn.{get_or-range_with_len}
 use Rattle.std.proofs.lemmas.List.Elements.{All-tail, All-push}
-use Rattle.cb_inbox.specs.Seat.{InboxState}
+use Rattle.cb_crew.specs.Seat.{InboxState}
 use Rattle.cb_crew.specs.Ring.{DeskName, HandState, HoldsAll, Shown, IsHandOf, IsOfCrew, StandsForAll, joined_hand, kept_hand, peers_of}
 use Rattle.cb_crew.specs.Turn.{HandlerState}
 use Rattle.cb_crew.specs.Crew.{CrewState, AreAllDesks, AreDeskNames, IsCrew, IsFreeHandOf, IsHandlerOf, FirstHasRoom, AreHandlersOf}

@@ -6,15 +6,15 @@ use Rattle.std.proofs.lemmas.List.{append-nil, append_assoc, length-append, map-
 use Rattle.std.proofs.lemmas.List.Elements.{All-push}
 use Rattle.std.proofs.lemmas.List.Sums.{sum_by-append, sum_by-cons, sum_by_push}
 use Rattle.std.proofs.lemmas.Grind.{flat_map-append}
-use Rattle.cb_sched.specs.Line.{connections}
-use Rattle.cb_sched.specs.Laws.{IsBeginning, OpensFollowEnds}
-use Rattle.cb_sched.proofs.LineLaws.{queued_parts, follows, few, connections_push}
-use Rattle.cb_inbox.specs.declared.queued.Queued.{Queued}
-use Rattle.cb_inbox.specs.declared.queued.Queued.TheVariants as queued
-use Rattle.cb_inbox.specs.Queued.{is_end, is_open, has_ended}
-use Rattle.cb_inbox.specs.Rule.{IsOfALine}
-use Rattle.cb_inbox.specs.Seat.{InboxState, SeatState, taken_more}
-use Rattle.cb_inbox.proofs.Seats.{ended_now}
+use Rattle.cb_crew.specs.Line.{connections}
+use Rattle.cb_crew.specs.Laws.{IsBeginning, OpensFollowEnds}
+use Rattle.cb_crew.proofs.LineLaws.{queued_parts, follows, few, connections_push}
+use Rattle.cb_crew.specs.declared.queued.Queued.{Queued}
+use Rattle.cb_crew.specs.declared.queued.Queued.TheVariants as queued
+use Rattle.cb_crew.specs.Queued.{is_end, is_open, has_ended}
+use Rattle.cb_crew.specs.Rule.{IsOfALine}
+use Rattle.cb_crew.specs.Seat.{InboxState, SeatState, taken_more}
+use Rattle.cb_crew.proofs.Seats.{ended_now}
 use Rattle.cb_crew.specs.declared.work.Given.{Given}
 use Rattle.cb_crew.specs.declared.desk.Step.{Step}
 use Rattle.cb_crew.specs.declared.desk.Step.TheVariants as step

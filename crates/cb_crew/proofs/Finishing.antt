@@ -5,7 +5,7 @@ use Rattle.std.proofs.Math.Seq.{map-set_same, get_or-append_seam}
 use Rattle.std.proofs.lemmas.List.{append-nil, append_assoc, get_or-map, length-append, length-map, nil_from_length, take_more_set, take_all}
 use Rattle.std.proofs.lemmas.List.Elements.{All-nil, All-push}
 use Rattle.std.proofs.lemmas.Simd.{map-map}
-use Rattle.cb_inbox.specs.Seat.{InboxState}
+use Rattle.cb_crew.specs.Seat.{InboxState}
 use Rattle.cb_crew.specs.declared.work.Given.{Given}
 use Rattle.cb_crew.specs.declared.reader_side.ReaderSide.{ReaderSide}
 use Rattle.cb_crew.specs.Desk.{DeskState, KeepsWorks, NotTicked, first_label}

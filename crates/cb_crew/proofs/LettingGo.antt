@@ -6,8 +6,8 @@ use Rattle.std.proofs.lemmas.List.{append-nil, append_assoc, drop_all, drop-set-
 use Rattle.std.proofs.lemmas.List.Elements.{All-append, All-cons, All-nil, All-push, length_all_zip}
 use Rattle.std.proofs.lemmas.List.Sums.{get_or-le-sum_by, sum_by-append, sum_by-cons, sum_by-set, sum_by-take-drop, sum_by_push}
 use Rattle.cb_crew.specs.declared.work.Given.{Given}
-use Rattle.cb_inbox.specs.Seat.{InboxState, SeatState}
-use Rattle.cb_inbox.specs.declared.queued.Queued.{Queued}
+use Rattle.cb_crew.specs.Seat.{InboxState, SeatState}
+use Rattle.cb_crew.specs.declared.queued.Queued.{Queued}
 use Rattle.cb_crew.specs.Desk.{DeskState, KeepsWorks, NotTicked, PastAfter, desk_state}
 use Rattle.cb_crew.specs.Past.{IsPushed, Keeps, OldestLetGo, StaysIfFew}
 use Rattle.cb_crew.specs.Work.{HasLetGo, IsKeptOrLetGo, IsUnticked, first_of}

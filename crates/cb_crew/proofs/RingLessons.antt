@@ -6,8 +6,8 @@ use Rattle.std.proofs.lemmas.List.FromFn.{length-range_with_len}
 use Rattle.std.proofs.lemmas.List.Sums.{sum_by-cons}
 use Rattle.atomic_table.specs.Seated.{TableId}
 use Rattle.crossbeam_queue.specs.Fifo.{Learns}
-use Rattle.cb_sched.specs.Desks.{DesksReached}
-use Rattle.cb_sched.proofs.DesksLaws.{handlers_stay, desks_count, at_most_one}
+use Rattle.cb_crew.specs.Desks.{DesksReached}
+use Rattle.cb_crew.proofs.DesksLaws.{handlers_stay, desks_count, at_most_one}
 use Rattle.cb_crew.specs.Ring.{Shown, CrewStage, making, running, IsHeld, HoldsInTurn, peers_of}
 use Rattle.cb_crew.specs.RingRule.{RingCrew, HandView, AreDesks, AtStage, IsRing}
 use Rattle.cb_crew.specs.Hand.{state_of}

@@ -10,9 +10,9 @@ use mathlib.Core.Option.{some, some-ne-none}
 use lib.ListN.{get_elem?}
 use Rattle.crossbeam_queue.specs.Fifo.{Pushes, Pops, Forks, Merges}
 use Rattle.crossbeam_queue.proofs.Lists.{at_set, at_snoc}
-use Rattle.cb_sched.specs.Desks.{Desks, DesksReached, opening_desks, held_by, claimed, given}
-use Rattle.cb_sched.specs.Desks as places
-use Rattle.cb_sched.proofs.DesksLaws.{handlers_stay}
+use Rattle.cb_crew.specs.Desks.{Desks, DesksReached, opening_desks, held_by, claimed, given}
+use Rattle.cb_crew.specs.Desks as places
+use Rattle.cb_crew.proofs.DesksLaws.{handlers_stay}
 use Rattle.cb_crew.specs.Ring.{DeskName, Shown, CrewStage, making, running, finishing, IsOfCrew, IsHeld, peers_of}
 use Rattle.cb_crew.specs.RingRule.{RingCrew, HandView, numbers_of, held_peers, EachOnce, IsHandOfCrew, Holds, AreDesks, AtStage, IsRing, idle_view, first_view, grown_crew, grown_view, made_crew, made_view, at_stage, running_view, hired_view, hiring_view, claimed_view, given_view, joined_view, kept_view}
 use Rattle.cb_crew.proofs.RingSums.{ones, range_push, range_weighs, one_below, once_moved, once_forked, once_merged, parts_of, first_below, own_numbers, other_numbers, alone}

@@ -8,9 +8,9 @@ use Rattle.std.proofs.lemmas.List.Sums.{sum_by-cons, sum_by_push}
 use Rattle.std.proofs.lemmas.List.Elements.{All-nil, All-cons}
 use mathlib.Core.Option.{some, some-ne-none, some-injective}
 use lib.ListN.{get_elem?}
-use Rattle.cb_sched.specs.Desks.{DesksReached, opening_desks}
-use Rattle.cb_sched.specs.Desks as places
-use Rattle.cb_sched.proofs.DesksLaws.{each_once}
+use Rattle.cb_crew.specs.Desks.{DesksReached, opening_desks}
+use Rattle.cb_crew.specs.Desks as places
+use Rattle.cb_crew.proofs.DesksLaws.{each_once}
 use Rattle.cb_crew.specs.RingRule.{HandView, EachOnce, numbers_of}
 
 -- ---- a sum over views, of which one or two are looked at

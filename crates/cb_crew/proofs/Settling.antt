@@ -4,16 +4,16 @@ use Rattle.std.specs.List.{All, AllZip, Contains, slice_split, onto_first, flat_
 use Rattle.std.proofs.lemmas.Bool.{false≢true, cases_lt, lt-ltb, le-ltb}
 use Rattle.std.proofs.lemmas.List.{append-nil, append_assoc, length-append, nil_from_length}
 use Rattle.std.proofs.lemmas.List.Elements.{All-push}
-use Rattle.cb_sched.specs.Laws.{IsBeginning, OpensFollowEnds}
-use Rattle.cb_sched.proofs.LineLaws.{follows, taken_begins}
-use Rattle.cb_inbox.specs.declared.queued.Queued.{Queued}
-use Rattle.cb_inbox.specs.declared.queued.Queued.TheVariants as queued
-use Rattle.cb_inbox.specs.Queued.{is_end, is_open, has_ended}
-use Rattle.cb_inbox.specs.Rule.{IsOfALine, longer}
+use Rattle.cb_crew.specs.Laws.{IsBeginning, OpensFollowEnds}
+use Rattle.cb_crew.proofs.LineLaws.{follows, taken_begins}
+use Rattle.cb_crew.specs.declared.queued.Queued.{Queued}
+use Rattle.cb_crew.specs.declared.queued.Queued.TheVariants as queued
+use Rattle.cb_crew.specs.Queued.{is_end, is_open, has_ended}
+use Rattle.cb_crew.specs.Rule.{IsOfALine, longer}
 use Rattle.cb_crew.specs.declared.work.Given.{Given}
 use Rattle.cb_crew.specs.declared.work.Given.TheVariants as given
 use Rattle.cb_crew.specs.Work.{AreWorksOf, WorksOn, given_by, connections_of}
-use Rattle.cb_inbox.specs.Seat.{SeatState, IsFullBy, told_of_taken}
+use Rattle.cb_crew.specs.Seat.{SeatState, IsFullBy, told_of_taken}
 use Rattle.cb_crew.specs.Desk.{DeskState, first_label, HasServedAll, IsDesk, desk_note, desk_told}
 use Rattle.cb_crew.specs.Headline.{NothingAfterEnd, InOrder, IsSettled, works_of}
 use Rattle.cb_crew.proofs.Works.{split_some}

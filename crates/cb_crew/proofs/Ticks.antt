@@ -5,8 +5,8 @@ use Rattle.std.proofs.lemmas.List.{append_assoc}
 use Rattle.std.proofs.lemmas.List.Elements.{All-append, All-cons, All-nil}
 use Rattle.cb_crew.specs.declared.work.Given.{Given}
 use Rattle.cb_crew.specs.Work.{IsTicked, IsUnticked}
-use Rattle.cb_inbox.specs.declared.queued.Queued.{Queued}
-use Rattle.cb_inbox.specs.Seat.{SeatState}
+use Rattle.cb_crew.specs.declared.queued.Queued.{Queued}
+use Rattle.cb_crew.specs.Seat.{SeatState}
 use Rattle.cb_crew.specs.Desk.{DeskState, NotTicked, TickedOnce, WorksAfter, desk_told}
 use Rattle.cb_crew.proofs.Works.{zip_all, zip_parts, zip_push, zip_refl, zip_then}
 

@@ -1,10 +1,10 @@
 -- A desk that a hand claimed for a turn.
 use Rattle.std.proofs.Common.{◌≡◌, ℕ, ◌<◌, inl, inr, Bool, Option, List, length, map, get_or, refl, sym, ap, subst, ◌∙◌, arith}
 use Rattle.std.proofs.lemmas.List.{get_or-map, length-append}
-use Rattle.cb_inbox.specs.declared.queued.Queued.{Queued}
-use Rattle.cb_inbox.specs.Seat.{InboxState, SeatState}
-use Rattle.cb_crew.specs.declared.handler.Turn.{Turn}
-use Rattle.cb_crew.specs.declared.handler.Turn.TheVariants as turn
+use Rattle.cb_crew.specs.declared.queued.Queued.{Queued}
+use Rattle.cb_crew.specs.Seat.{InboxState, SeatState}
+use Rattle.cb_crew.specs.declared.handler.TurnOutcome.{TurnOutcome}
+use Rattle.cb_crew.specs.declared.handler.TurnOutcome.TheVariants as turn
 use Rattle.cb_crew.specs.declared.work.Given.{Given}
 use Rattle.cb_crew.specs.Desk.{DeskState, HasTaken, HasServed, TickedOnce, desk_told, first_label}
 use Rattle.cb_crew.specs.Ring.{DeskName, HandState, Shown, IsHeld, IsOfCrew, claimed_hand, given_hand}
@@ -49,7 +49,7 @@ module _ {W M : Type 0} (label : W → ℕ) (given : W → List (Given M) → Ty
   }
 
   -- what was served is held still
-  pub held_is : (hand : HandState (DeskState W M)) (desk after : DeskState W M) (budget : ℕ) (done : Turn) → IsClaimed label hand desk → TurnsDesk label given is_closed desk after budget done → IsHeld hand.held (shown_desk label is_closed after)
+  pub held_is : (hand : HandState (DeskState W M)) (desk after : DeskState W M) (budget : ℕ) (done : TurnOutcome) → IsClaimed label hand desk → TurnsDesk label given is_closed desk after budget done → IsHeld hand.held (shown_desk label is_closed after)
   held_is hand desk after budget (turn.Served peer worked passed) c t = still desk after c t.0.same_inbox t.0.same_first
   held_is hand desk after budget (turn.Idle peer) c t = still desk after c t.0.same_inbox t.0.same_first
   held_is hand desk after budget (turn.Shut peer) c t = still desk after c t.0.same_inbox t.0.same_first
@@ -67,7 +67,7 @@ module _ {W M : Type 0} (label : W → ℕ) (given : W → List (Given M) → Ty
   }
 
   -- its inbox is the same
-  pub inbox_of_turn : (desk after : DeskState W M) (budget : ℕ) (done : Turn) → TurnsDesk label given is_closed desk after budget done → after.inbox ≡ desk.inbox
+  pub inbox_of_turn : (desk after : DeskState W M) (budget : ℕ) (done : TurnOutcome) → TurnsDesk label given is_closed desk after budget done → after.inbox ≡ desk.inbox
   inbox_of_turn desk after budget (turn.Served peer worked passed) t = t.0.same_inbox
   inbox_of_turn desk after budget (turn.Idle peer) t = t.0.same_inbox
   inbox_of_turn desk after budget (turn.Shut peer) t = t.0.same_inbox
@@ -89,7 +89,7 @@ module _ {W M : Type 0} (label : W → ℕ) (given : W → List (Given M) → Ty
   heard_taken desk heard after peer note back worked passed (inr other) h = subst (λ d. HasTaken given is_closed d after worked passed) other.2 h
 
   -- a turn that had a desk
-  pub turn_counts : (old hand new : HandState (DeskState W M)) (desk : DeskState W M) (budget : ℕ) (done : Turn) → hand ≡ claimed_hand old (shown_desk label is_closed desk) → Serves label given is_closed hand new desk budget done → Counts label given is_closed old new done
+  pub turn_counts : (old hand new : HandState (DeskState W M)) (desk : DeskState W M) (budget : ℕ) (done : TurnOutcome) → hand ≡ claimed_hand old (shown_desk label is_closed desk) → Serves label given is_closed hand new desk budget done → Counts label given is_closed old new done
   turn_counts old hand new desk budget (turn.Served peer worked passed) is s = did (λ d e. HasTaken given is_closed d e worked passed) old hand new desk s.0 is s.1 s.2.0.same_inbox s.2.0.has
   turn_counts old hand new desk budget (turn.Idle peer) is s = did (λ d e. HasTaken given is_closed d e 0 0) old hand new desk s.0 is s.1 s.2.0.same_inbox s.2.0.has
   turn_counts old hand new desk budget (turn.Shut peer) is s = did (λ d e. HasTaken given is_closed d e 0 0) old hand new desk s.0 is s.1 s.2.0.same_inbox s.2.0.has
@@ -97,7 +97,7 @@ module _ {W M : Type 0} (label : W → ℕ) (given : W → List (Given M) → Ty
   turn_counts old hand new desk budget turn.Spent is s = tt
 
   -- the same where its seat was told something
-  pub heard_counts : (old hand new : HandState (DeskState W M)) (desk heard : DeskState W M) (peer budget : ℕ) (note : SeatState (Queued M W)) (back : Option (SeatState (Queued M W))) (done : Turn) → Hears desk heard peer note back → hand ≡ claimed_hand old (shown_desk label is_closed desk) → Serves label given is_closed hand new heard budget done → Counts label given is_closed old new done
+  pub heard_counts : (old hand new : HandState (DeskState W M)) (desk heard : DeskState W M) (peer budget : ℕ) (note : SeatState (Queued M W)) (back : Option (SeatState (Queued M W))) (done : TurnOutcome) → Hears desk heard peer note back → hand ≡ claimed_hand old (shown_desk label is_closed desk) → Serves label given is_closed hand new heard budget done → Counts label given is_closed old new done
   heard_counts old hand new desk heard peer budget note back (turn.Served of worked passed) hears is s = did (λ d e. HasTaken given is_closed d e worked passed) old hand new desk s.0 is s.1 (s.2.0.same_inbox ∙ heard_inbox desk heard peer note back hears) (heard_taken desk heard s.0 peer note back worked passed hears s.2.0.has)
   heard_counts old hand new desk heard peer budget note back (turn.Idle of) hears is s = did (λ d e. HasTaken given is_closed d e 0 0) old hand new desk s.0 is s.1 (s.2.0.same_inbox ∙ heard_inbox desk heard peer note back hears) (heard_taken desk heard s.0 peer note back 0 0 hears s.2.0.has)
   heard_counts old hand new desk heard peer budget note back (turn.Shut of) hears is s = did (λ d e. HasTaken given is_closed d e 0 0) old hand new desk s.0 is s.1 (s.2.0.same_inbox ∙ heard_inbox desk heard peer note back hears) (heard_taken desk heard s.0 peer note back 0 0 hears s.2.0.has)
@@ -116,7 +116,7 @@ module _ {W M : Type 0} (label : W → ℕ) (given : W → List (Given M) → Ty
   heard_ticked hand new desk heard peer note back (inr other) g = (g.0, g.1, g.2 ∙ ap (λ (d : DeskState W M). d.inbox) other.2, subst (λ d. TickedOnce given ticked is_closed d g.0) other.2 g.3)
 
   -- a turn that had a desk
-  pub turn_ticks : (old hand new : HandState (DeskState W M)) (desk : DeskState W M) (done : Turn) → hand ≡ claimed_hand old (shown_desk label is_closed desk) → GivesTicked label given ticked is_closed hand new desk → Ticks label given ticked is_closed old new done
+  pub turn_ticks : (old hand new : HandState (DeskState W M)) (desk : DeskState W M) (done : TurnOutcome) → hand ≡ claimed_hand old (shown_desk label is_closed desk) → GivesTicked label given ticked is_closed hand new desk → Ticks label given ticked is_closed old new done
   turn_ticks old hand new desk (turn.Served peer worked passed) is g = did label given is_closed (TickedOnce given ticked is_closed) old hand new desk g.0 is g.1 g.2 g.3
   turn_ticks old hand new desk (turn.Idle peer) is g = did label given is_closed (TickedOnce given ticked is_closed) old hand new desk g.0 is g.1 g.2 g.3
   turn_ticks old hand new desk (turn.Shut peer) is g = did label given is_closed (TickedOnce given ticked is_closed) old hand new desk g.0 is g.1 g.2 g.3

@@ -6,10 +6,10 @@ use Rattle.std.proofs.lemmas.List.{append-nil, append_assoc, length-map}
 use Rattle.std.proofs.lemmas.List.Elements.{All-nil, All-cons, All-head, All-tail}
 use Rattle.std.proofs.lemmas.Grind.{flat_map-append}
 use Rattle.std.proofs.lemmas.List.Splits.{length-slice_split}
-use Rattle.cb_sched.specs.Line.{connections}
-use Rattle.cb_sched.specs.Laws.{OpensFollowEnds, ends_last}
-use Rattle.cb_inbox.specs.declared.queued.Queued.{Queued}
-use Rattle.cb_inbox.specs.Queued.{is_open}
+use Rattle.cb_crew.specs.Line.{connections}
+use Rattle.cb_crew.specs.Laws.{OpensFollowEnds, ends_last}
+use Rattle.cb_crew.specs.declared.queued.Queued.{Queued}
+use Rattle.cb_crew.specs.Queued.{is_open}
 use Rattle.cb_crew.specs.declared.work.Given.{Given}
 use Rattle.cb_crew.specs.Work.{IsFresh, WorksOn, given_by, connections_of}
 

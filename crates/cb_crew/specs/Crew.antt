@@ -2,9 +2,9 @@
 use Rattle.std.specs.Prelude.{◌≡◌, ℕ, ◌<◌, ◌≤◌, ◌^◌, List, [], ◌∷◌, ◌++◌, length, map, All}
 use Rattle.std.specs.List.{sum_by, range_with_len}
 use Rattle.atomic_table.specs.Seated.{TableId}
-use Rattle.cb_inbox.specs.declared.queued.Queued.{Queued}
-use Rattle.cb_inbox.specs.declared.queued.Queued.TheVariants as queued
-use Rattle.cb_inbox.specs.Seat.{InboxState, SeatState, opening_seat}
+use Rattle.cb_crew.specs.declared.queued.Queued.{Queued}
+use Rattle.cb_crew.specs.declared.queued.Queued.TheVariants as queued
+use Rattle.cb_crew.specs.Seat.{InboxState, SeatState, opening_seat}
 use Rattle.cb_crew.specs.declared.reader_side.ReaderSide.{ReaderSide}
 use Rattle.cb_crew.specs.declared.reader_side.ReaderSide.TheVariants as side
 use Rattle.cb_crew.specs.Ring.{DeskName, RingState, HandState, Shown, most_peers, running, IsOfCrew, peers_of}

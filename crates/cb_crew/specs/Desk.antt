@@ -2,11 +2,11 @@
 -- that.
 use Rattle.std.specs.Prelude.{◌≡◌, ℕ, ◌+◌, ◌<◌, ◌≤◌, ◌⊎◌, Bool, true, false, List, [], ◌∷◌, ◌++◌, length, All}
 use Rattle.std.specs.List.{AllZip, count_by, sum_by}
-use Rattle.cb_sched.specs.Laws.{IsBeginning}
-use Rattle.cb_inbox.specs.declared.queued.Queued.{Queued}
-use Rattle.cb_inbox.specs.Queued.{is_open, has_ended}
-use Rattle.cb_inbox.specs.Rule.{longer}
-use Rattle.cb_inbox.specs.Seat.{InboxState, SeatState}
+use Rattle.cb_crew.specs.Laws.{IsBeginning}
+use Rattle.cb_crew.specs.declared.queued.Queued.{Queued}
+use Rattle.cb_crew.specs.Queued.{is_open, has_ended}
+use Rattle.cb_crew.specs.Rule.{longer}
+use Rattle.cb_crew.specs.Seat.{InboxState, SeatState}
 use Rattle.cb_crew.specs.declared.work.Given.{Given}
 use Rattle.cb_crew.specs.declared.desk.Step.{Step}
 use Rattle.cb_crew.specs.declared.desk.Step.TheVariants as step

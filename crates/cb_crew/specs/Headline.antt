@@ -1,8 +1,8 @@
 -- What a crew promises for each peer: what its works were given of what its reader queued.
 use Rattle.std.specs.Prelude.{◌≡◌, ℕ, Bool, true, List, [], ◌∷◌, ◌++◌, length, map, All, Contains}
 use Rattle.std.specs.List.{AllZip, range_with_len}
-use Rattle.cb_sched.specs.Laws.{IsBeginning}
-use Rattle.cb_inbox.specs.declared.queued.Queued.{Queued}
+use Rattle.cb_crew.specs.Laws.{IsBeginning}
+use Rattle.cb_crew.specs.declared.queued.Queued.{Queued}
 use Rattle.cb_crew.specs.declared.work.Given.{Given}
 use Rattle.cb_crew.specs.declared.work.Given.TheVariants as given
 use Rattle.cb_crew.specs.declared.reader_side.ReaderSide.{ReaderSide}

@@ -3,7 +3,7 @@
 use Rattle.std.specs.Prelude.{◌≡◌, ℕ, ◌+◌, ◌-◌, ◌<◌, ◌≤◌, Bool, false, List, [], ◌∷◌, ◌++◌, length, map, slice_index_or}
 use Rattle.std.specs.List.{sum_by, range_with_len}
 use Rattle.atomic_table.specs.Seated.{TableId}
-use Rattle.cb_sched.specs.Desks.{Desks, DesksReached, held_by}
+use Rattle.cb_crew.specs.Desks.{Desks, DesksReached, held_by}
 
 -- how many peers a crew can have
 abbrev pub most_peers : ℕ

@@ -3,7 +3,7 @@ use Rattle.std.specs.Prelude.{◌≡◌, ℕ, ◌+◌, ◌<◌, List, [], ◌∷
 use Rattle.std.specs.List.{sum_by, range_with_len}
 use mathlib.Core.Option.{some}
 use lib.ListN.{get_elem?}
-use Rattle.cb_sched.specs.Desks.{Desks, DesksReached, held_by}
+use Rattle.cb_crew.specs.Desks.{Desks, DesksReached, held_by}
 use Rattle.cb_crew.specs.Ring.{DeskName, Shown, Last, CrewStage, making, running, finishing, IsOfCrew, peers_of, no_last, last_of}
 
 -- what all hands know of the crew

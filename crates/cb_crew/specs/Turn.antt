@@ -2,10 +2,10 @@
 use Rattle.std.specs.Prelude.{◌≡◌, ◌≢◌, ◌⊎◌, ℕ, ◌+◌, ◌<◌, ◌≤◌, ◌^◌, Bool, true, false, Option, Result, List, [], ◌∷◌, length, map, slice_index_or}
 use Rattle.std.specs.declared.option.Option.TheVariants as option
 use Rattle.std.specs.declared.result.Result.TheVariants as outcome
-use Rattle.cb_inbox.specs.Seat.{SeatState}
-use Rattle.cb_crew.specs.declared.handler.Turn.{Turn}
-use Rattle.cb_crew.specs.declared.handler.Turn.TheVariants as turn
-use Rattle.cb_inbox.specs.declared.queued.Queued.{Queued}
+use Rattle.cb_crew.specs.Seat.{SeatState}
+use Rattle.cb_crew.specs.declared.handler.TurnOutcome.{TurnOutcome}
+use Rattle.cb_crew.specs.declared.handler.TurnOutcome.TheVariants as turn
+use Rattle.cb_crew.specs.declared.queued.Queued.{Queued}
 use Rattle.cb_crew.specs.declared.work.Given.{Given}
 use Rattle.cb_crew.specs.Desk.{DeskState, HasTaken, TickedOnce, desk_told, first_label}
 use Rattle.cb_crew.specs.Ring.{DeskName, Shown, HandState, IsOfCrew, claimed_hand, given_hand}
@@ -42,7 +42,7 @@ NoneLeft hand = hand.last.told ≤ hand.last.taken
 -- A turn takes up to `budget` marks. It takes fewer only if none is left, or a work closed on what
 -- it was given. It takes none only if none is left. Without a desk in the ring, all desks were
 -- held, and there are fewer desks than handlers.
-abbrev pub Turned : {X : Type 0} → HandState X → HandState X → ℕ → Turn → Type 0
+abbrev pub Turned : {X : Type 0} → HandState X → HandState X → ℕ → TurnOutcome → Type 0
 Turned old new budget (turn.Served peer worked passed) =
     GaveBack old new peer (worked + passed) × (1 ≤ worked + passed) × (worked + passed ≤ budget)
     × (worked + passed < budget → NoneLeft new ⊎ ((1 ≤ worked) × (new.last.closed ≡ true)))
@@ -63,7 +63,7 @@ pub record IsNoteOf {Q : Type 0} (names : List DeskName) (peer : ℕ) (note : Se
       ≡ note.inbox
 
 -- the turn didn't serve this peer's desk
-abbrev pub IsOther : Turn → ℕ → Type 0
+abbrev pub IsOther : TurnOutcome → ℕ → Type 0
 IsOther (turn.Served peer worked passed) other = peer ≢ other
 IsOther (turn.Idle peer) other = peer ≢ other
 IsOther (turn.Shut peer) other = peer ≢ other
@@ -78,8 +78,8 @@ pub record IsHeard {X Q : Type 0} (hand : HandState X) (peer : ℕ) (note : Seat
   pub told : length note.queued ≤ hand.last.told
 
 -- Either the desk heard the note, or the note came back and the turn didn't serve its peer's desk.
-abbrev pub Brings : {X Q : Type 0} → HandState X → Turn → ℕ → SeatState Q → Option (SeatState Q)
-    → Type 0
+abbrev pub Brings : {X Q : Type 0} → HandState X → TurnOutcome → ℕ → SeatState Q
+    → Option (SeatState Q) → Type 0
 Brings hand done peer note back =
     ((back ≡ option.None) × IsHeard hand peer note)
     ⊎ ((back ≡ option.Some note) × IsOther done peer)
@@ -88,7 +88,7 @@ Brings hand done peer note back =
 
 -- A turn claims a desk, unless the handler has made all its turns or no desk waits.
 abbrev pub Begins : {W M : Type 0} → (W → ℕ) → (W → Bool) → HandlerState (DeskState W M)
-    → HandlerState (DeskState W M) → Result (DeskState W M) Turn → Type 0
+    → HandlerState (DeskState W M) → Result (DeskState W M) TurnOutcome → Type 0
 Begins label is_closed old new (outcome.Ok desk) =
     (new.hand ≡ claimed_hand old.hand (shown_desk label is_closed desk))
     × IsOfCrew old.hand.names (shown_desk label is_closed desk) × (new.turns ≡ old.turns + 1)
@@ -124,7 +124,7 @@ abbrev pub HasNoneLeft : {W M : Type 0} → DeskState W M → Type 0
 HasNoneLeft desk = length desk.queued ≤ length desk.taken
 
 abbrev pub TurnsDesk : {W M : Type 0} → (W → ℕ) → (W → List (Given M) → Type 0) → (W → Bool)
-    → DeskState W M → DeskState W M → ℕ → Turn → Type 0
+    → DeskState W M → DeskState W M → ℕ → TurnOutcome → Type 0
 TurnsDesk label given is_closed old new budget (turn.Served peer worked passed) =
     ServesDesk label given is_closed old new peer worked passed × (1 ≤ worked + passed)
     × (worked + passed ≤ budget)
@@ -150,7 +150,8 @@ pub record IsClaimed {W M : Type 0} (label : W → ℕ) (hand : HandState (DeskS
 
 -- The desk was served and given back.
 abbrev pub Serves : {W M : Type 0} → (W → ℕ) → (W → List (Given M) → Type 0) → (W → Bool)
-    → HandState (DeskState W M) → HandState (DeskState W M) → DeskState W M → ℕ → Turn → Type 0
+    → HandState (DeskState W M) → HandState (DeskState W M) → DeskState W M → ℕ → TurnOutcome
+    → Type 0
 Serves {W} {M} label given is_closed old new desk budget done =
     (after : DeskState W M) × (new ≡ given_hand old (shown_desk label is_closed after))
     × TurnsDesk label given is_closed desk after budget done
@@ -173,7 +174,7 @@ pub record Did {W M : Type 0} (label : W → ℕ) (is_closed : W → Bool)
 -- In each turn that had a desk, its work was ticked once if it was open, before it was given
 -- anything more. No other work was ticked.
 abbrev pub Ticks : {W M : Type 0} → (W → ℕ) → (W → List (Given M) → Type 0) → (W → List ℕ → Type 0)
-    → (W → Bool) → HandState (DeskState W M) → HandState (DeskState W M) → Turn → Type 0
+    → (W → Bool) → HandState (DeskState W M) → HandState (DeskState W M) → TurnOutcome → Type 0
 Ticks label given ticked is_closed old new (turn.Served peer worked passed) =
     Did label is_closed (TickedOnce given ticked is_closed) old new
 Ticks label given ticked is_closed old new (turn.Idle peer) =
@@ -186,7 +187,7 @@ Ticks label given ticked is_closed old new turn.Spent = Unit {0}
 -- In each turn that had a desk, so many of its marks were taken. As many as the turn tells were
 -- given to works, the others were open marks or came to a closed work.
 abbrev pub Counts : {W M : Type 0} → (W → ℕ) → (W → List (Given M) → Type 0) → (W → Bool)
-    → HandState (DeskState W M) → HandState (DeskState W M) → Turn → Type 0
+    → HandState (DeskState W M) → HandState (DeskState W M) → TurnOutcome → Type 0
 Counts label given is_closed old new (turn.Served peer worked passed) =
     Did label is_closed (λ desk after. HasTaken given is_closed desk after worked passed) old new
 Counts label given is_closed old new (turn.Idle peer) =

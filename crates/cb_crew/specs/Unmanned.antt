@@ -1,7 +1,7 @@
 -- A crew that has no works yet.
 use Rattle.std.specs.Prelude.{◌≡◌, ℕ, List, map, All}
 use Rattle.std.specs.List.{range_with_len}
-use Rattle.cb_inbox.specs.Seat.{InboxState, SeatState, opening_seat}
+use Rattle.cb_crew.specs.Seat.{InboxState, SeatState, opening_seat}
 use Rattle.cb_crew.specs.Ring.{HandState, opening_hand}
 use Rattle.cb_crew.specs.Crew.{CrewState}
 

@@ -6,11 +6,12 @@ ghost use Rattle.cb_crew.specs.Headline.{IsFinished};
 
 use crate::desk::Desk;
 use crate::handler::Handler;
+use crate::inbox::Inbox;
+use crate::reader::ReaderSeat;
 use crate::reader_side::ReaderSide;
 use crate::ring::Ring;
 use crate::work::{Fresh, Work};
 use cb_base::{Fault, Shared};
-use cb_inbox::{Inbox, ReaderSeat};
 use std::alloc::Global;
 use std::marker::Model;
 use std::sync::Wait;
@@ -18,7 +19,6 @@ use std::sync::Wait;
 /// A crew: a few handler threads that serve many peers. It has an inbox for each peer, and a desk
 /// that serves that inbox. Free desks wait in the ring, the run queue. Threads share a crew by
 /// reference.
-#[derive(Drop)]
 pub struct Crew<W: Work> {
     pub(crate) ring: Ring<Desk<W>>,
     pub(crate) inboxes: Vec<Shared<Inbox<W::Item, Fresh<W>>>>,
@@ -47,6 +47,17 @@ impl<W: Work> Model for Crew<W> {
           handlers = a.handlers;
           labels = a.labels.items;
         } };
+}
+
+impl<W: Work> Drop for Crew<W> {
+    fn drop(self) {
+        let Crew {
+            ring: _,
+            inboxes: _,
+            handlers: _,
+            labels: _,
+        } = self;
+    }
 }
 
 impl<W: Work> Crew<W> {

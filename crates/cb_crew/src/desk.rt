@@ -1,16 +1,19 @@
 ghost use Rattle.std.specs.Prelude.{◌≡◌, ◌≤◌, true, false, List, [], ◌∷◌, ◌++◌, vec_capacity};
 ghost use Rattle.std.specs.List.{sum_by};
-ghost use Rattle.cb_inbox.specs.Seat.{opening_seat};
+ghost use Rattle.cb_crew.specs.Seat.{opening_seat};
 ghost use Rattle.cb_crew.specs.declared.desk.Step.TheVariants.{Worked, Passed};
 ghost use Rattle.cb_crew.specs.declared.work.Given.{Given};
 ghost use Rattle.cb_crew.specs.Work.{IsEnd, IsTicked, IsUnticked};
 ghost use Rattle.cb_crew.specs.Desk.{IsDesk, IsSameLine, IsServed, HasServedAll, KeepsWorks, NotTicked, PastAfter, Stepped, TickedOnce, desk_note, desk_state, desk_told, first_label};
 
+use crate::inbox::Inbox;
+use crate::note::Note;
 use crate::past::PastWorks;
+use crate::queued::Queued;
 use crate::ring_rule::Travels;
+use crate::taker::TakerSeat;
 use crate::work::{Fresh, Given, Work};
 use cb_base::Shared;
-use cb_inbox::{Inbox, Note, Queued, TakerSeat};
 use std::marker::Model;
 use std::mem;
 use std::sync::Wait;
@@ -44,7 +47,6 @@ pub struct Count {
 /// connection, in order and each once. An open work was given all of that. The works of earlier
 /// connections are closed, and keep at most 1,000,000 bytes together: the oldest let go first, so
 /// the latest are kept whole as far as these bytes go.
-#[derive(Drop)]
 pub struct Desk<W: Work> {
     inbox: Shared<Inbox<W::Item, Fresh<W>>>,
     seat: TakerSeat<W::Item, Fresh<W>>,
@@ -65,6 +67,17 @@ impl<W: Work> Model for Desk<W> {
         × (a.seat.inbox ≡ a.inbox.name) × (255 ≤ a.past.capacity)
         × KeepsWorks W.label W.given W.ticked W.is_closed W.is_whole W.weight
         (desk_state a.inbox a.seat a.work a.past.works) };
+}
+
+impl<W: Work> Drop for Desk<W> {
+    fn drop(self) {
+        let Desk {
+            inbox: _,
+            seat: _,
+            work: _,
+            past: _,
+        } = self;
+    }
 }
 
 impl<W: Work> Travels for Desk<W> {
@@ -139,7 +152,13 @@ impl<W: Work> Desk<W> {
     pub fn into_works(self) -> (W, Vec<W>)
         ensures { (result.0 ≡ self.work) × (result.1.items ≡ self.past) }
     {
-        (self.work, self.past.into_works())
+        let Desk {
+            inbox: _,
+            seat: _,
+            work,
+            past,
+        } = self;
+        (work, past.into_works())
     }
 
     /// Learns from a note of the reader how much was queued.

@@ -1,5 +1,5 @@
 ghost use Rattle.std.specs.Prelude.{◌≡◌, ◌<◌, ◌≤◌, ◌^◌, true, [], length, map, slice_index_or, vec_capacity};
-ghost use Rattle.cb_inbox.specs.Queued.{has_ended};
+ghost use Rattle.cb_crew.specs.Queued.{has_ended};
 ghost use Rattle.cb_crew.specs.Desk.{KeepsWorks, NotTicked, first_label};
 ghost use Rattle.cb_crew.specs.Turn.{shown_desk};
 ghost use Rattle.cb_crew.specs.Ring.{StandsForAll};
@@ -9,10 +9,11 @@ ghost use Rattle.cb_crew.specs.Headline.{IsFinished, IsSettled};
 use crate::crew::Crew;
 use crate::desk::Desk;
 use crate::handler::Handler;
+use crate::inbox::Inbox;
+use crate::reader::EndedSeat;
 use crate::reader_side::ReaderSide;
 use crate::ring::Hand;
 use crate::work::{Fresh, Work};
-use cb_inbox::{EndedSeat, Inbox};
 use std::sync::Wait;
 
 impl<W: Work> Crew<W> {

@@ -1,5 +1,5 @@
 ghost use Rattle.std.specs.Prelude.{◌≡◌, ◌≢◌, ◌+◌, ◌^◌, ◌≤◌, ◌↔◌, [], vec_capacity, IfOk};
-ghost use Rattle.cb_crew.specs.declared.handler.Turn.TheVariants.{Spent};
+ghost use Rattle.cb_crew.specs.declared.handler.TurnOutcome.TheVariants.{Spent};
 ghost use Rattle.cb_crew.specs.Crew.{IsHandlerOf};
 ghost use Rattle.cb_crew.specs.Ring.{IsHandOf, running};
 ghost use Rattle.cb_crew.specs.Desk.{TickedOnce};
@@ -7,9 +7,9 @@ ghost use Rattle.cb_crew.specs.Turn.{Begins, Brings, Counts, GivesTicked, Hears,
 
 use crate::crew::Crew;
 use crate::desk::Desk;
+use crate::note::Note;
 use crate::ring::Hand;
 use crate::work::{Fresh, Work};
-use cb_inbox::Note;
 use std::marker::Model;
 use std::sync::Wait;
 
@@ -18,7 +18,7 @@ const MOST_TURNS: u64 = 1 << 40;
 
 /// What a turn did.
 #[derive(Clone, Copy, Debug, PartialEq, Eq)]
-pub enum Turn {
+pub enum TurnOutcome {
     /// Marks were taken from the inbox of this peer, at least one. The numbers are how many items
     /// and end marks were given to works, and how many marks were passed over: open marks, and what
     /// came to a closed work.
@@ -36,7 +36,6 @@ pub enum Turn {
 /// A thread's share of a crew: it claims desks and gives them back. Contracts see its hand, the
 /// number of its turns, and for how many desks its list has room. The list of the crew's first
 /// handler is kept for `Crew::finish`.
-#[derive(Drop)]
 pub struct Handler<W: Work> {
     hand: Hand<Desk<W>>,
     turns: u64,
@@ -53,6 +52,16 @@ impl<W: Work> Model for Handler<W> {
     ghost view = { λ a. record { hand = a.hand; turns = a.turns; room = vec_capacity a.desks } };
 
     ghost invariant = { λ a. (a.turns ≤ 2 ^ 40) × (a.desks.items ≡ []) };
+}
+
+impl<W: Work> Drop for Handler<W> {
+    fn drop(self) {
+        let Handler {
+            hand: _,
+            turns: _,
+            desks: _,
+        } = self;
+    }
 }
 
 impl<W: Work> Handler<W> {
@@ -73,7 +82,12 @@ impl<W: Work> Handler<W> {
         ensures hand { result.0 ≡ self.hand }
         ensures desks { (result.1.items ≡ []) × (vec_capacity result.1 ≡ self.room) }
     {
-        (self.hand, self.desks)
+        let Handler {
+            hand,
+            turns: _,
+            desks,
+        } = self;
+        (hand, desks)
     }
 
     /// How many turns the handler made.
@@ -87,8 +101,8 @@ impl<W: Work> Handler<W> {
     /// open. Takes up to `budget` marks from its inbox, 1 to 64, and gives them to works or passes
     /// them over. Then gives the desk back.
     ///
-    /// Returns what was done. After 2^40 turns it returns `Turn::Spent` and changes nothing.
-    pub fn turn<R: Wait>(&mut self, rt: &R, crew: &Crew<W>, budget: u32) -> Turn
+    /// Returns what was done. After 2^40 turns it returns `TurnOutcome::Spent` and changes nothing.
+    pub fn turn<R: Wait>(&mut self, rt: &R, crew: &Crew<W>, budget: u32) -> TurnOutcome
         requires crew { IsHandlerOf crew.now self.old }
         requires budget { (1 ≤ budget) × (budget ≤ 64) }
         ensures turned { Turned self.old.hand self.new.hand budget result }
@@ -107,9 +121,9 @@ impl<W: Work> Handler<W> {
     }
 
     /// Makes one turn, as `turn` does, and brings a note of a peer's reader. If the claimed desk is
-    /// this peer's, its seat learns the note before it is served. `Turn::Idle` or `Turn::Shut` then
-    /// tells that everything in the note was taken. If it is another peer's desk, or there is none,
-    /// the note comes back.
+    /// this peer's, its seat learns the note before it is served. `TurnOutcome::Idle` or
+    /// `TurnOutcome::Shut` then tells that everything in the note was taken. If it is another
+    /// peer's desk, or there is none, the note comes back.
     pub fn turn_told<R: Wait>(
         &mut self,
         rt: &R,
@@ -117,7 +131,7 @@ impl<W: Work> Handler<W> {
         budget: u32,
         peer: u16,
         note: Note<W::Item, Fresh<W>>,
-    ) -> (Turn, Option<Note<W::Item, Fresh<W>>>)
+    ) -> (TurnOutcome, Option<Note<W::Item, Fresh<W>>>)
         requires crew { IsHandlerOf crew.now self.old }
         requires budget { (1 ≤ budget) × (budget ≤ 64) }
         requires note { IsNoteOf self.old.hand.names peer note }
@@ -142,7 +156,7 @@ impl<W: Work> Handler<W> {
 
     /// Claims the desk at the front of the ring for a turn. Without a desk, returns how the turn
     /// ends.
-    fn begin<R: Wait>(&mut self, rt: &R, crew: &Crew<W>) -> Result<Desk<W>, Turn>
+    fn begin<R: Wait>(&mut self, rt: &R, crew: &Crew<W>) -> Result<Desk<W>, TurnOutcome>
         requires { IsHandlerOf crew.now self.old }
         ensures begins { Begins W.label W.is_closed self.old self.new result }
         ensures hand { IfOk result
@@ -150,14 +164,22 @@ impl<W: Work> Handler<W> {
         ensures room { self.new.room ≡ self.old.room }
     {
         if self.turns == MOST_TURNS {
-            return Err(Turn::Spent);
+            return Err(TurnOutcome::Spent);
         }
         self.turns += 1;
-        crew.ring.claim(rt, &mut self.hand).ok_or(Turn::NoDesk)
+        crew.ring
+            .claim(rt, &mut self.hand)
+            .ok_or(TurnOutcome::NoDesk)
     }
 
     /// Serves a desk that the hand holds, and gives it back. Returns what was done.
-    fn complete<R: Wait>(&mut self, rt: &R, crew: &Crew<W>, mut desk: Desk<W>, budget: u32) -> Turn
+    fn complete<R: Wait>(
+        &mut self,
+        rt: &R,
+        crew: &Crew<W>,
+        mut desk: Desk<W>,
+        budget: u32,
+    ) -> TurnOutcome
         requires hand { IsHandOf crew.now.ring self.old.hand × (self.old.hand.stage ≡ running) }
         requires desk { IsClaimed W.label self.old.hand desk }
         requires budget { (1 ≤ budget) × (budget ≤ 64) }
@@ -190,7 +212,7 @@ fn hear<W: Work>(
 }
 
 /// Serves a desk. Returns what was done.
-fn serve_desk<W: Work, R: Wait>(rt: &R, desk: &mut Desk<W>, budget: u32) -> Turn
+fn serve_desk<W: Work, R: Wait>(rt: &R, desk: &mut Desk<W>, budget: u32) -> TurnOutcome
     requires { (1 ≤ budget) × (budget ≤ 64) }
     ensures turns { TurnsDesk W.label W.given W.is_closed desk.old desk.new budget result }
     ensures ticks { TickedOnce W.given W.ticked W.is_closed desk.old desk.new }
@@ -198,10 +220,10 @@ fn serve_desk<W: Work, R: Wait>(rt: &R, desk: &mut Desk<W>, budget: u32) -> Turn
     let peer = desk.peer();
     let count = desk.serve(rt, budget);
     if count.worked + count.passed > 0 {
-        Turn::Served(peer, count.worked, count.passed)
+        TurnOutcome::Served(peer, count.worked, count.passed)
     } else if desk.work().closed() {
-        Turn::Shut(peer)
+        TurnOutcome::Shut(peer)
     } else {
-        Turn::Idle(peer)
+        TurnOutcome::Idle(peer)
     }
 }

@@ -1,7 +1,7 @@
 ghost use Rattle.std.specs.Prelude.{◌≡◌, ◌≤◌, [], length, map, vec_capacity, All, IfOk, IfErr, IsOkUnless};
 ghost use Rattle.cb_base.specs.declared.fault.Fault.TheVariants.{Memory};
 ghost use Rattle.cb_crew.specs.Work.{IsFresh};
-ghost use Rattle.cb_inbox.specs.Seat.{opening_seat};
+ghost use Rattle.cb_crew.specs.Seat.{opening_seat};
 ghost use Rattle.cb_crew.specs.Ring.{StandsForAll, most_peers};
 ghost use Rattle.cb_crew.specs.Desk.{desk_state};
 ghost use Rattle.cb_crew.specs.Crew.{AreHandlersOf, AreOpeningSeats, IsFreeHandOf, IsNewCrew, MadeNoTurn};
@@ -10,10 +10,12 @@ ghost use Rattle.cb_crew.specs.Unmanned.{AreLines, IsOpeningHandOf};
 use crate::crew::Crew;
 use crate::desk::Desk;
 use crate::handler::Handler;
+use crate::inbox::Inbox;
+use crate::reader::ReaderSeat;
 use crate::ring::{Hand, Ring};
+use crate::taker::TakerSeat;
 use crate::work::{Fresh, Work};
 use cb_base::{Fault, Shared};
-use cb_inbox::{Inbox, ReaderSeat, TakerSeat};
 use std::alloc::Global;
 use std::marker::Model;
 use std::mem;
@@ -43,7 +45,7 @@ struct Vacancy<W: Work> {
 
 impl<W: Work> Model for Vacancy<W> {
     ghost use Rattle.std.specs.Prelude.{◌≡◌, ◌≤◌, [], vec_capacity};
-    ghost use Rattle.cb_inbox.specs.Seat.{InboxState, opening_seat};
+    ghost use Rattle.cb_crew.specs.Seat.{InboxState, opening_seat};
 
     ghost Value = { InboxState };
 
@@ -240,6 +242,8 @@ impl<W: Work> Unmanned<W> {
         let labels = labels_of(alloc, works.as_slice())?;
         let (ring, hand) = Ring::new(alloc, peers, handlers)?;
         let lines = Lines::new(alloc, peers, capacity)?;
+        let desks = Vec::with_capacity(alloc, usize::from(peers))?;
+        let hired = Vec::with_capacity(alloc, usize::from(handlers))?;
         Ok(Unmanned {
             crew: Crew {
                 ring,
@@ -250,8 +254,8 @@ impl<W: Work> Unmanned<W> {
             hand,
             readers: lines.readers,
             vacancies: lines.vacancies,
-            desks: Vec::with_capacity(alloc, usize::from(peers))?,
-            handlers: Vec::with_capacity(alloc, usize::from(handlers))?,
+            desks,
+            handlers: hired,
         })
     }
 

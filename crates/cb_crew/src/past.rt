@@ -10,7 +10,6 @@ const PAST_BYTES: u64 = 1_000_000;
 
 /// The works of a desk's past connections, in order. They keep at most 1,000,000 bytes together:
 /// the oldest let go first, so the latest are kept whole as far as these bytes go.
-#[derive(Drop)]
 pub(crate) struct PastWorks<W: Work> {
     works: Vec<W>,
     /// How many of the oldest have let go.
@@ -28,6 +27,16 @@ impl<W: Work> Model for PastWorks<W> {
     ghost view = { λ a. record { works = a.works.items; capacity = vec_capacity a.works } };
 
     ghost invariant = { λ a. Keeps W.weight a.works.items a.gone a.kept × (a.kept ≤ 1000000) };
+}
+
+impl<W: Work> Drop for PastWorks<W> {
+    fn drop(self) {
+        let PastWorks {
+            works: _,
+            gone: _,
+            kept: _,
+        } = self;
+    }
 }
 
 impl<W: Work> PastWorks<W> {
@@ -55,7 +64,12 @@ impl<W: Work> PastWorks<W> {
     pub(crate) fn into_works(self) -> Vec<W>
         ensures { result.items ≡ self.works }
     {
-        self.works
+        let PastWorks {
+            works,
+            gone: _,
+            kept: _,
+        } = self;
+        works
     }
 
     /// Adds the work of a connection that is past. If it alone keeps more than 1,000,000 bytes, it

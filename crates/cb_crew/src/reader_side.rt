@@ -1,4 +1,5 @@
-use cb_inbox::{EndedSeat, Opening, ReaderSeat};
+use crate::queued::Opening;
+use crate::reader::{EndedSeat, ReaderSeat};
 
 /// What a peer's reader brings to `Crew::finish`: its seat, during a connection or after an end
 /// mark.

@@ -16,7 +16,7 @@ use std::sync::Wait;
 ///
 /// Which desks wait in it can change at any moment, so no contract speaks of them. At every moment
 /// each peer's desk waits in the ring or one hand holds it. While the crew runs, the desks are
-/// where acts of the crew's core (cb_sched) lead.
+/// where acts of the crew's core lead.
 #[derive(Drop)]
 pub struct Ring<D: Travels + Drop> {
     queue: RingQueue<D>,

@@ -1,7 +1,7 @@
 ghost use Rattle.std.specs.Prelude.{◌≡◌};
 ghost use Rattle.cb_crew.specs.Work.{IsFresh};
 
-use cb_inbox::Opening;
+use crate::queued::Opening;
 use std::marker::Model;
 use std::sync::Wait;
 
@@ -107,7 +107,6 @@ pub trait Work: Drop {
 
 /// A work that may begin a connection: it is open, was given nothing, was never ticked and let go
 /// of nothing.
-#[derive(Drop)]
 pub struct Fresh<W: Work> {
     work: W,
 }
@@ -120,6 +119,12 @@ impl<W: Work> Model for Fresh<W> {
     ghost view = { λ a. a.work };
 
     ghost invariant = { λ a. IsFresh W.given W.ticked W.is_closed W.is_whole a.work };
+}
+
+impl<W: Work> Drop for Fresh<W> {
+    fn drop(self) {
+        let Fresh { work: _ } = self;
+    }
 }
 
 impl<W: Work> Opening for Fresh<W> {
@@ -142,6 +147,7 @@ impl<W: Work> Fresh<W> {
         ensures work { result ≡ self }
         ensures fresh { IsFresh W.given W.ticked W.is_closed W.is_whole result }
     {
-        self.work
+        let Fresh { work } = self;
+        work
     }
 }

@@ -1,7 +1,7 @@
 -- How many answers a verdict tells of.
 use Rattle.std.proofs.Common.{◌≡◌, ◌∙◌, ℕ, List}
 use Rattle.std.specs.List.{sum_by}
-use Rattle.cb_journal.specs.Journal.{JournalState}
+use Rattle.cb_hall.specs.Journal.{JournalState}
 use Rattle.cb_audit.specs.Order.{AuditedTrace}
 use Rattle.cb_control.specs.declared.verdict.Verdict.{Verdict}
 use Rattle.cb_control.specs.declared.verdict.Verdict.TheVariants as verdicts

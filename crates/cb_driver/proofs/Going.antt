@@ -3,7 +3,7 @@ use Rattle.std.proofs.Common.{◌≡◌, ℕ, suc, Bool, true, false, ◌+◌, L
 use Rattle.std.proofs.lemmas.List.{append-nil, length-append}
 use Rattle.std.specs.Io.KnownBytes.{prepend_known, Appends}
 use Rattle.std.specs.Str.Lines.{lines}
-use Rattle.cb_run.specs.Lines.{NextLine}
+use Rattle.cb_control.specs.Lines.{NextLine}
 use Rattle.cb_control.specs.declared.refusal.Refusal.{Refusal}
 use Rattle.cb_control.specs.declared.refusal.Refusal.TheVariants as refusals
 use Rattle.cb_control.specs.declared.script_line.ScriptOrder.{ScriptOrder}

@@ -3,7 +3,7 @@ use Rattle.std.proofs.Common.{◌≡◌, ◌<◌, ◌+◌, ℕ, Bool, true, fals
 use Rattle.std.proofs.lemmas.List.{length-replicate, length-set}
 use Rattle.std.proofs.lemmas.List.Elements.{All-get_or, All-set}
 use Rattle.std.specs.declared.net.socket_addr.SocketAddr.{SocketAddr}
-use Rattle.cb_slots.specs.declared.fault.NodeFault.{NodeFault}
+use Rattle.cb_node.specs.declared.fault.NodeFault.{NodeFault}
 use Rattle.cb_node.specs.declared.settings.NodeSettings.{NodeSettings}
 use Rattle.cb_node.specs.Node.{IsNewNode, IsServed, NodeState, with_listens, with_used}
 use Rattle.cb_driver.specs.Playing.{HasSlots}

@@ -8,9 +8,9 @@ use Rattle.cb_control.specs.declared.refusal.Refusal.TheVariants as refusals
 use Rattle.cb_control.specs.declared.reply.Reply.{Reply}
 use Rattle.cb_control.specs.declared.script_line.ScriptOrder.TheVariants.{Link, Obey}
 use Rattle.cb_control.specs.Outcomes.{IsOfNode}
-use Rattle.cb_run.specs.declared.ending.Halt.{Halt}
-use Rattle.cb_slots.specs.declared.fault.NodeFault.{NodeFault}
-use Rattle.cb_slots.specs.declared.fault.NodeFault.TheVariants as faults
+use Rattle.cb_control.specs.declared.ending.Halt.{Halt}
+use Rattle.cb_node.specs.declared.fault.NodeFault.{NodeFault}
+use Rattle.cb_node.specs.declared.fault.NodeFault.TheVariants as faults
 use Rattle.cb_node.specs.Node.{NodeState}
 use Rattle.cb_driver.specs.Deeds.{TellsSlot, refusal_of}
 use Rattle.cb_driver.specs.Playing.{CanBecome, HasSlots}
@@ -33,7 +33,7 @@ obeys number (Kick slot) node done (Ok outcome) has tells is told = (
 
 -- why a node refuses a call, if not for memory
 refused_so : (fault : NodeFault) → fault ≢ faults.Memory → IsOfNode (Some (refusal_of fault))
-refused_so faults.Io not = tt
+refused_so (faults.Io kind) not = tt
 refused_so faults.NoSlot not = tt
 refused_so faults.Memory not = absurd (not refl)
 refused_so (faults.Hall fault) not = tt

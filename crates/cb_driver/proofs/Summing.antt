@@ -2,7 +2,7 @@
 use Rattle.std.proofs.Common.{◌≡◌, ℕ, Bool, false, List, [], ◌++◌, Option, Some, None, Result, Ok, Err, IfOk, refl, ap, subst, ◌∙◌, append_assoc, inl, inr}
 use Rattle.std.specs.Io.KnownBytes.{Appends}
 use Rattle.cb_control.specs.declared.script_text.Tally.{Tally}
-use Rattle.cb_run.specs.declared.ending.Halt.{Halt}
+use Rattle.cb_control.specs.declared.ending.Halt.{Halt}
 use Rattle.cb_driver.specs.declared.playing.Played.{Played}
 use Rattle.cb_driver.specs.declared.playing.Played.TheVariants.{Whole, Unreadable}
 use Rattle.cb_driver.specs.Playing.{PlaysKnown}

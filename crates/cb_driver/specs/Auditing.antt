@@ -1,9 +1,9 @@
 -- What is told of the audit of a node's hall and its desks.
 use Rattle.std.specs.Prelude.{◌≡◌, ℕ, ◌+◌, ⊤, List, Ok, Err}
-use Rattle.cb_journal.specs.Journal.{JournalState}
+use Rattle.cb_hall.specs.Journal.{JournalState}
 use Rattle.cb_hall.specs.declared.summary.Look.{Look}
 use Rattle.cb_hall.specs.Hall.{look_of}
-use Rattle.cb_reader.specs.declared.input.Input.{Input}
+use Rattle.cb_session.specs.declared.input.Input.{Input}
 use Rattle.cb_crew.specs.Crew.{CrewState}
 use Rattle.cb_crew.specs.Desk.{DeskState}
 use Rattle.cb_work.specs.PeerWork.{WorkState}

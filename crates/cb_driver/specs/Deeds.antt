@@ -1,7 +1,7 @@
 -- What a node answers that is to do something.
 use Rattle.std.specs.Prelude.{◌≡◌, ◌↔◌, ℕ, ◌≤◌, ⊤, Result, Err}
-use Rattle.cb_slots.specs.declared.fault.NodeFault.{NodeFault}
-use Rattle.cb_slots.specs.declared.fault.NodeFault.TheVariants as node
+use Rattle.cb_node.specs.declared.fault.NodeFault.{NodeFault}
+use Rattle.cb_node.specs.declared.fault.NodeFault.TheVariants as node
 use Rattle.cb_control.specs.declared.order.Deed.{Deed}
 use Rattle.cb_control.specs.declared.order.Deed.TheVariants.{Kick}
 use Rattle.cb_control.specs.declared.refusal.Refusal.{Refusal}
@@ -10,7 +10,7 @@ use Rattle.cb_control.specs.declared.reply.Reply.{Reply}
 
 -- why an order is refused, by why a node refuses a call
 abbrev pub refusal_of : NodeFault → Refusal
-refusal_of node.Io = refusals.Io
+refusal_of (node.Io kind) = refusals.Io
 refusal_of node.NoSlot = refusals.NoSlot
 refusal_of node.Memory = refusals.Memory
 refusal_of (node.Hall fault) = refusals.Fault fault

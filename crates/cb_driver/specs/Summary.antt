@@ -5,7 +5,7 @@ use Rattle.std.specs.List.{AllZip, flat_map, list_all, range_with_len}
 use Rattle.std.specs.Str.Lines.{lines}
 use Rattle.cb_crew.specs.Crew.{CrewState}
 use Rattle.cb_crew.specs.Desk.{DeskState}
-use Rattle.cb_reader.specs.declared.input.Input.{Input}
+use Rattle.cb_session.specs.declared.input.Input.{Input}
 use Rattle.cb_work.specs.PeerWork.{WorkState}
 use Rattle.cb_node.specs.declared.node.NodeEnd.{NodeEnd}
 use Rattle.cb_node.specs.Node.{HasFinished}

@@ -4,9 +4,8 @@ ghost use Rattle.cb_hall.specs.Hall.{look_of};
 ghost use Rattle.cb_audit.specs.Desks.{badge_count, traces_of};
 ghost use Rattle.cb_driver.specs.Auditing.{CountsAll, IsAudited, TellsEnd, TellsVerdict};
 
-use crate::Host;
 use cb_audit::{Audited, Split, are_in_order, audit, traces};
-use cb_control::Verdict;
+use cb_control::{Host, Verdict};
 use cb_crew::Desk;
 use cb_hall::{Hall, Look};
 use cb_node::{Node, NodeEnd, NodeWork};

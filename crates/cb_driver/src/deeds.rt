@@ -4,11 +4,10 @@ ghost use Rattle.cb_control.specs.declared.order.Deed.TheVariants as deeds;
 ghost use Rattle.cb_control.specs.Answering.{CanTell};
 ghost use Rattle.cb_driver.specs.Deeds.{TellsSlot};
 
-use crate::host::Host;
 use cb_base::Shared;
 use cb_block::{Block, sound};
-use cb_control::{Deed, Reply, Tip};
-use cb_journal::Local;
+use cb_control::{Deed, Host, Reply, Tip};
+use cb_hall::Local;
 use cb_node::{Node, NodeFault};
 use std::alloc::Global;
 

@@ -2,18 +2,18 @@
 ghost use Rattle.std.specs.Prelude.{◌≡◌, ◌↔◌, ◌≤◌, ◌<◌, length, All, Err, IfOk, OnOk, IsOkUnless, Some, vec_capacity, vec_len};
 ghost use Rattle.std.specs.List.{AllZip};
 ghost use Rattle.cb_node.specs.Node.{HasFinished};
-ghost use Rattle.cb_run.specs.declared.ending.Halt.TheVariants.{Memory};
-ghost use Rattle.cb_slots.specs.declared.fault.NodeFault.TheVariants as faults;
+ghost use Rattle.cb_control.specs.declared.ending.Halt.TheVariants.{Memory};
+ghost use Rattle.cb_node.specs.declared.fault.NodeFault.TheVariants as faults;
 ghost use Rattle.cb_control.specs.declared.refusal.Refusal.TheVariants as refusals;
 ghost use Rattle.cb_control.specs.Outcomes.{IsOfNode};
 ghost use Rattle.cb_control.specs.ScriptLine.{IsAmong};
 ghost use Rattle.cb_driver.specs.Playing.{CanBecome, HasSlots};
 
-use crate::{Host, perform, refusal_of};
+use crate::deeds::perform;
+use crate::refusing::refusal_of;
 use cb_base::Seed;
-use cb_control::{Refusal, ScriptOrder};
+use cb_control::{Halt, Host, Refusal, ScriptOrder};
 use cb_node::{Node, NodeEnd, NodeFault, NodeSettings};
-use cb_run::Halt;
 use std::alloc::Global;
 use std::net::{IpAddr, Ipv4Addr, SocketAddr};
 use std::sync::Wait;
@@ -32,7 +32,7 @@ const PAUSE_MILLISECONDS: u64 = 1;
 
 /// How many nodes and threads a run has.
 #[derive(Clone, Copy, PartialEq, Eq)]
-pub struct Sizes {
+pub struct RunSizes {
     /// The number of nodes, 1 to 8.
     pub nodes: u16,
     /// The number of each node's handler threads, 1 to 16.
@@ -54,7 +54,7 @@ pub struct Nodes<R: Wait + Drop> {
 impl<R: Host> Nodes<R> {
     /// Starts the nodes. Their tables have this seed. Fails with `NodeFault::Io` if a thread can't
     /// be started, and with `NodeFault::Memory`. No node runs then.
-    pub fn start(rt: R, alloc: Global, sizes: Sizes, seed: Seed) -> Result<Nodes<R>, NodeFault>
+    pub fn start(rt: R, alloc: Global, sizes: RunSizes, seed: Seed) -> Result<Nodes<R>, NodeFault>
         requires handlers { (1 ≤ sizes.handlers) × (sizes.handlers ≤ 16) }
         ensures count { IfOk result (λ nodes. vec_len nodes.list ≡ sizes.nodes) }
     {
@@ -162,7 +162,7 @@ fn link<R: Host>(list: &mut [Node<R>], first: usize, second: usize) -> Result<()
 fn start_all<R: Host>(
     rt: R,
     alloc: Global,
-    sizes: Sizes,
+    sizes: RunSizes,
     seed: Seed,
     list: &mut Vec<Node<R>>,
 ) -> Result<(), NodeFault>

@@ -1,13 +1,11 @@
 //! Playing a script, line by line.
 ghost use Rattle.std.specs.Prelude.{◌≡◌, IfOk, IfErr, vec_len};
-ghost use Rattle.cb_run.specs.Ending.{HasCause};
+ghost use Rattle.cb_control.specs.Ending.{HasCause};
 ghost use Rattle.cb_driver.specs.Playing.{PlaysKnown};
 
-use crate::Host;
 use crate::nodes::Nodes;
 use cb_base::{Sink, Source};
-use cb_control::{Refusal, Tally, read_script_order, write_outcome};
-use cb_run::{Halt, LineReader};
+use cb_control::{Halt, Host, LineReader, Refusal, Tally, read_script_order, write_outcome};
 use std::alloc::Global;
 
 /// How the playing of a script ended.

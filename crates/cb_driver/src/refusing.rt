@@ -9,7 +9,7 @@ pub fn refusal_of(fault: NodeFault) -> Refusal
     ensures { result ≡ refusal_of fault }
 {
     match fault {
-        NodeFault::Io => Refusal::Io,
+        NodeFault::Io(_) => Refusal::Io,
         NodeFault::NoSlot => Refusal::NoSlot,
         NodeFault::Memory => Refusal::Memory,
         NodeFault::Hall(fault) => Refusal::Fault(fault),

@@ -2,21 +2,20 @@
 ghost use Rattle.std.specs.Prelude.{◌≡◌, ◌⊎◌, ◌≤◌, ◌++◌, ℕ, List, [], true, false, length, IfOk, IfErr, OnOk, IsOkUnless};
 ghost use Rattle.std.specs.Io.KnownBytes.{Appends};
 ghost use Rattle.std.specs.List.{AllZip};
-ghost use Rattle.cb_run.specs.declared.ending.Halt.TheVariants.{Memory, WriteFailed};
-ghost use Rattle.cb_run.specs.Ending.{HasCause};
+ghost use Rattle.cb_control.specs.declared.ending.Halt.TheVariants.{Memory, WriteFailed};
+ghost use Rattle.cb_control.specs.Ending.{HasCause};
 ghost use Rattle.cb_driver.specs.declared.report.NodeReport.{NodeReport};
 ghost use Rattle.cb_control.specs.Outcomes.{LacksOrFails, status_of};
 ghost use Rattle.cb_driver.specs.Summary.{AreOfAll, AreReported, RunsKnown, TellsReport, not_started_text, reports_text, tally_reported};
 
-use crate::nodes::{Nodes, Sizes};
+use crate::auditing::audit_end;
+use crate::nodes::{Nodes, RunSizes};
 use crate::playing::{Played, play};
 use crate::report::{NodeReport, print_reports, tally_reported};
 use crate::stats::print_stats;
-use crate::{Host, audit_end};
 use cb_base::{Seed, Sink, Source};
-use cb_control::Tally;
+use cb_control::{Halt, Host, Status, Tally, write_all};
 use cb_node::{NodeEnd, NodeFault};
-use cb_run::{Halt, Status, write_all};
 use std::alloc::Global;
 use std::sync::Wait;
 
@@ -24,7 +23,7 @@ use std::sync::Wait;
 #[derive(Clone, Copy, PartialEq, Eq)]
 pub struct RunOrders {
     /// How many nodes and threads it has.
-    pub sizes: Sizes,
+    pub sizes: RunSizes,
     /// Whether it also prints what each connection moved.
     pub stats: bool,
 }

@@ -2,15 +2,15 @@
 ghost use Rattle.std.specs.Prelude.{◌≡◌, ℕ, List, Err, IfErr, OnOk, IsOkUnless};
 ghost use Rattle.std.specs.Io.KnownBytes.{Appends};
 ghost use Rattle.cb_base.specs.declared.fault.Fault.TheVariants as faults;
-ghost use Rattle.cb_run.specs.declared.ending.Halt.TheVariants.{Memory};
+ghost use Rattle.cb_control.specs.declared.ending.Halt.TheVariants.{Memory};
 ghost use Rattle.cb_control.specs.Outcomes.{LacksOrFails};
 
-use crate::moved_of;
+use crate::moving::moved_of;
 use cb_base::{Fault, Sink};
+use cb_control::{Halt, write_all};
 use cb_crew::Desk;
 use cb_node::{NodeEnd, NodeWork};
 use cb_peer_state::{CloseReason, State};
-use cb_run::{Halt, write_all};
 use std::alloc::Global;
 use std::sync::Wait;
 

@@ -8,16 +8,16 @@ use Rattle.cb_base.specs.declared.fault.Fault.{Fault}
 use Rattle.cb_base.specs.declared.fault.Fault.TheVariants.{Overspent, Remade}
 use Rattle.cb_base.specs.declared.hash.Hash256.{Hash256}
 use Rattle.cb_base.proofs.Fields.{bind_ok, ok_is}
-use Rattle.cb_tx.specs.declared.tx.OutPoint.{OutPoint}
-use Rattle.cb_tx.specs.declared.tx.TxIn.{TxIn}
-use Rattle.cb_tx.specs.declared.tx.TxOut.{TxOut}
-use Rattle.cb_tx.specs.declared.tx.Tx.{Tx}
-use Rattle.cb_tx.specs.Rules.{IsCoinbase, value_sum}
+use Rattle.cb_block.specs.declared.tx.OutPoint.{OutPoint}
+use Rattle.cb_block.specs.declared.tx.TxIn.{TxIn}
+use Rattle.cb_block.specs.declared.tx.TxOut.{TxOut}
+use Rattle.cb_block.specs.declared.tx.Tx.{Tx}
+use Rattle.cb_block.specs.TxRules.{IsCoinbase, value_sum}
 use Rattle.cb_ledger.specs.Spend.{is_coinbase, make_outputs, spend, spend_inputs, spend_tx, take_output}
 use Rattle.cb_ledger.specs.Unspent.{Unspent}
 use Rattle.cb_ledger.proofs.Outpoints.{get_insert, get_remove, is_same, is_same-true}
 use Rattle.cb_ledger.proofs.Sums.{taken, test_ok}
-use Rattle.cb_pool.specs.Rules.{txid_of}
+use Rattle.cb_block.specs.Txid.{txid_of}
 use Rattle.cb_hall.specs.MinedBlock.{IsMadeAgain, first_output}
 
 -- ---- more unspent outputs

@@ -4,16 +4,16 @@ use Rattle.std.specs.Prelude.{Err, Ok, OnOk, Result}
 use Rattle.std.proofs.lemmas.List.{append-nil}
 use Rattle.cb_base.specs.declared.fault.Fault.{Fault}
 use Rattle.cb_state.specs.declared.connection.Connection.{Connection}
-use Rattle.cb_journal.specs.declared.answer.Answer.{Answer}
-use Rattle.cb_journal.specs.declared.entry.Entry.{Entry}
-use Rattle.cb_journal.specs.declared.entry.Entry.TheVariants.{Asked, Kick, Opened, Submitted}
-use Rattle.cb_journal.specs.declared.entry.Local.{Local}
-use Rattle.cb_journal.specs.declared.question.Question.{Question}
-use Rattle.cb_journal.specs.Connections.{latest_of}
-use Rattle.cb_journal.specs.Journal.{IsPast, JournalState, Notes, is_to_begin_anew, new_journal}
-use Rattle.cb_journal.specs.Replica.{Leads, ReplicaState, Steps, heard, opening}
-use Rattle.cb_journal.proofs.Leading.{leads_one, leads_then}
-use Rattle.cb_journal.proofs.Once.{one_end}
+use Rattle.cb_hall.specs.declared.answer.Answer.{Answer}
+use Rattle.cb_hall.specs.declared.entry.Entry.{Entry}
+use Rattle.cb_hall.specs.declared.entry.Entry.TheVariants.{Asked, Kick, Opened, Submitted}
+use Rattle.cb_hall.specs.declared.entry.Local.{Local}
+use Rattle.cb_hall.specs.declared.question.Question.{Question}
+use Rattle.cb_hall.specs.Connections.{latest_of}
+use Rattle.cb_hall.specs.Journal.{IsPast, JournalState, Notes, is_to_begin_anew, new_journal}
+use Rattle.cb_hall.specs.Replica.{Leads, ReplicaState, Steps, heard, opening}
+use Rattle.cb_hall.proofs.Leading.{leads_one, leads_then}
+use Rattle.cb_hall.proofs.Once.{one_end}
 use Rattle.cb_hall.specs.Badge.{BadgeState, counted}
 use Rattle.cb_hall.specs.Hall.{Grants, Grows, HasHistory, latest_connection, next_connection}
 

@@ -4,15 +4,15 @@ use Rattle.std.specs.Prelude.{◌⊎◌, ◌≢◌, slice_get}
 use Rattle.std.specs.Option.{option_map_or}
 use Rattle.std.proofs.lemmas.List.{get_or-replicate}
 use Rattle.std.proofs.lemmas.Option.{slice_get-get_or}
-use Rattle.cb_journal.specs.declared.answer.Answer.{Answer}
-use Rattle.cb_journal.specs.declared.connections.Connected.{Connected}
-use Rattle.cb_journal.specs.declared.entry.Entry.{Entry}
-use Rattle.cb_journal.specs.declared.entry.Entry.TheVariants.{Asked, Kick, Opened, Submitted}
-use Rattle.cb_journal.specs.declared.question.Question.{Question}
-use Rattle.cb_journal.specs.Connections.{Slots, changed_at, connected_at, connected_of, counted, first_slots, fresh, in_slot, kicked, latest_of, most_peers, opened}
-use Rattle.cb_journal.specs.Journal.{JournalState, Notes, new_journal}
-use Rattle.cb_journal.specs.Replica.{Leads, ReplicaState, opening, slots_after}
-use Rattle.cb_journal.proofs.Slots.{length_first}
+use Rattle.cb_hall.specs.declared.answer.Answer.{Answer}
+use Rattle.cb_hall.specs.declared.connections.Connected.{Connected}
+use Rattle.cb_hall.specs.declared.entry.Entry.{Entry}
+use Rattle.cb_hall.specs.declared.entry.Entry.TheVariants.{Asked, Kick, Opened, Submitted}
+use Rattle.cb_hall.specs.declared.question.Question.{Question}
+use Rattle.cb_hall.specs.Connections.{Slots, changed_at, connected_at, connected_of, counted, first_slots, fresh, in_slot, kicked, latest_of, most_peers, opened}
+use Rattle.cb_hall.specs.Journal.{JournalState, Notes, new_journal}
+use Rattle.cb_hall.specs.Replica.{Leads, ReplicaState, opening, slots_after}
+use Rattle.cb_hall.proofs.Slots.{length_first}
 use Rattle.cb_hall.specs.Badge.{BadgeState, first_of, fresh_badge}
 use Rattle.cb_hall.specs.Hall.{Grants, HasHistory, next_connection}
 use Rattle.cb_hall.specs.Laws.{CountsAlike, IsHeld, is_checked, is_first, is_granted, is_opened, is_passed, is_question_of, is_refused}

@@ -6,26 +6,26 @@ use Rattle.std.proofs.lemmas.Bool.Decides.{nat_tests}
 use Rattle.cb_state.specs.declared.connection.Connection.{Connection}
 use Rattle.cb_state.specs.Announcers.{same_connection}
 use Rattle.cb_state.specs.State.{RelayState}
-use Rattle.cb_journal.specs.declared.answer.Answer.{Answer}
-use Rattle.cb_journal.specs.declared.answer.Answer.TheVariants as reply
-use Rattle.cb_journal.specs.declared.answer.Answer.TheVariants.{Kicked}
-use Rattle.cb_journal.specs.declared.connections.Connected.{Connected}
-use Rattle.cb_journal.specs.declared.entry.Entry.{Entry}
-use Rattle.cb_journal.specs.declared.entry.Entry.TheVariants.{Asked, Kick, Opened, Submitted}
+use Rattle.cb_hall.specs.declared.answer.Answer.{Answer}
+use Rattle.cb_hall.specs.declared.answer.Answer.TheVariants as reply
+use Rattle.cb_hall.specs.declared.answer.Answer.TheVariants.{Kicked}
+use Rattle.cb_hall.specs.declared.connections.Connected.{Connected}
+use Rattle.cb_hall.specs.declared.entry.Entry.{Entry}
+use Rattle.cb_hall.specs.declared.entry.Entry.TheVariants.{Asked, Kick, Opened, Submitted}
 use Rattle.cb_chain.specs.Following.{headers_after}
 use Rattle.cb_chain.specs.Locator.{locator_of}
 use Rattle.cb_compact.specs.ShortIds.{key_of}
 use Rattle.cb_pool.specs.Listing.{txs_of}
-use Rattle.cb_pool.specs.Matching.{pairs_of}
+use Rattle.cb_compact.specs.Matching.{pairs_of}
 use Rattle.cb_state.specs.Serving.{excerpt_of, pieces_of}
-use Rattle.cb_journal.specs.declared.question.Question.{Question}
-use Rattle.cb_journal.specs.declared.question.Question.TheVariants as ask
-use Rattle.cb_journal.specs.declared.question.Request.{Request}
-use Rattle.cb_journal.specs.declared.question.Request.TheVariants.{After, Items, Places}
-use Rattle.cb_journal.specs.Connections.{Slots, changed_at, connected_of, counted, fresh, is_kicked, kicked, opened, put_in}
-use Rattle.cb_journal.specs.Replica.{Does, Leads, ReplicaState, Steps}
-use Rattle.cb_journal.specs.Replies.{Answers, IsServed, Replies}
-use Rattle.cb_journal.proofs.Leading.{leads_one, leads_then}
+use Rattle.cb_hall.specs.declared.question.Question.{Question}
+use Rattle.cb_hall.specs.declared.question.Question.TheVariants as ask
+use Rattle.cb_hall.specs.declared.question.Request.{Request}
+use Rattle.cb_hall.specs.declared.question.Request.TheVariants.{After, Items, Places}
+use Rattle.cb_hall.specs.Connections.{Slots, changed_at, connected_of, counted, fresh, is_kicked, kicked, opened, put_in}
+use Rattle.cb_hall.specs.Replica.{Does, Leads, ReplicaState, Steps}
+use Rattle.cb_hall.specs.Replies.{Answers, IsServed, Replies}
+use Rattle.cb_hall.proofs.Leading.{leads_one, leads_then}
 use Rattle.cb_hall.specs.Laws.{AreTurnedAway, CountsItsQuestions, IsLetIn, WasKicked, is_question_of, questions_of}
 use Rattle.cb_hall.proofs.Lookups.{comes_fresh, is_same, opened_keeps, put_either, put_nothing}
 

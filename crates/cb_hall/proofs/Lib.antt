@@ -1,12 +1,17 @@
+pub mod Answering
 pub mod Badges
 pub mod Extending
+pub mod Fitting
 pub mod Growing
 pub mod Held
 pub mod Histories
 pub mod Kicks
+pub mod Leading
 pub mod Lookups
 pub mod LowBlocks
 pub mod Namesakes
 pub mod NextTip
+pub mod Once
 pub mod Replaying
 pub mod Rewarded
+pub mod Slots

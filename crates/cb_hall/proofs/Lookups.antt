@@ -4,8 +4,8 @@ use Rattle.std.specs.Prelude.{◌&&◌, ◌⊎◌, ◌≢◌, option_and_then, s
 use Rattle.std.proofs.lemmas.Bool.Decides.{nat_tests}
 use Rattle.cb_state.specs.declared.connection.Connection.{Connection}
 use Rattle.cb_state.specs.Announcers.{same_connection}
-use Rattle.cb_journal.specs.declared.connections.Connected.{Connected}
-use Rattle.cb_journal.specs.Connections.{Slots, changed_at, connected_at, connected_of, fresh, in_slot, opened, put_in}
+use Rattle.cb_hall.specs.declared.connections.Connected.{Connected}
+use Rattle.cb_hall.specs.Connections.{Slots, changed_at, connected_at, connected_of, fresh, in_slot, opened, put_in}
 
 -- ---- two connections
 

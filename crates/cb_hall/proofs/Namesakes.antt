@@ -6,10 +6,10 @@ use Rattle.std.proofs.lemmas.List.{drop_at, length-append, take_at}
 use Rattle.std.proofs.lemmas.Nat.{from_le_bytes-to_le_bytes_4}
 use Rattle.cb_base.specs.declared.hash.Hash256.{Hash256}
 use Rattle.cb_base.proofs.Hashes.{length-double_hash}
-use Rattle.cb_tx.specs.Text.{tx_text}
+use Rattle.cb_block.specs.TxText.{tx_text}
 use Rattle.cb_block.specs.declared.header.Header.{Header}
 use Rattle.cb_block.specs.Genesis.{genesis_header, genesis_tx}
-use Rattle.cb_block.specs.Text.{header_text}
+use Rattle.cb_block.specs.BlockText.{header_text}
 use Rattle.cb_chain.specs.Best.{best}
 use Rattle.cb_chain.specs.Entries.{Entry, Tree, block_hash, entry_of, first_entry, genesis_hash, has_block, height_of, is_kept, is_marked, same}
 use Rattle.cb_chain.specs.History.{IsHistoric}

@@ -1,12 +1,12 @@
 -- Calls that are played one after another, from the beginning.
 use Rattle.std.proofs.Common.{◌≡◌, ◌∙◌, ◌<◌, ◌≤◌, ◌^◌, ℕ, ◌+◌, List, [], ◌∷◌, ◌++◌, length, drop, get_or, Option, refl, sym, ap, subst, append_assoc, arith}
 use Rattle.std.proofs.lemmas.List.{append-nil, drop_all, drop_more}
-use Rattle.cb_journal.specs.declared.answer.Answer.{Answer}
-use Rattle.cb_journal.specs.declared.entry.Entry.{Entry}
-use Rattle.cb_journal.specs.Connections.{Slots, first_slots}
-use Rattle.cb_journal.specs.Journal.{JournalState, Notes, new_journal}
-use Rattle.cb_journal.specs.Replica.{AreFit, IsFit, ReplicaState, heard}
-use Rattle.cb_journal.proofs.Once.{one_step}
+use Rattle.cb_hall.specs.declared.answer.Answer.{Answer}
+use Rattle.cb_hall.specs.declared.entry.Entry.{Entry}
+use Rattle.cb_hall.specs.Connections.{Slots, first_slots}
+use Rattle.cb_hall.specs.Journal.{JournalState, Notes, new_journal}
+use Rattle.cb_hall.specs.Replica.{AreFit, IsFit, ReplicaState, heard}
+use Rattle.cb_hall.proofs.Once.{one_step}
 use Rattle.cb_hall.specs.Hall.{HasHistory, NotesAll}
 use Rattle.cb_hall.proofs.Growing.{grows_by, no_history}
 

@@ -4,23 +4,23 @@ use Rattle.std.specs.Prelude.{filter}
 use Rattle.std.proofs.lemmas.Bool.{cases_Bool, false≢true}
 use Rattle.std.proofs.lemmas.List.{length-drop}
 use Rattle.cb_base.specs.declared.fault.Fault.{Fault}
-use Rattle.cb_tx.specs.declared.tx.Tx.{Tx}
+use Rattle.cb_block.specs.declared.tx.Tx.{Tx}
 use Rattle.cb_block.specs.declared.block.Block.{Block}
 use Rattle.cb_state.specs.declared.connection.Connection.{Connection}
 use Rattle.cb_state.specs.declared.accepting.Taken.{Taken}
 use Rattle.cb_state.specs.Accepting.{TakesBlock, TakesTx, announcers_after, became_tip}
 use Rattle.cb_state.specs.Announcers.{is_among, last_three, same_connection, with_announcer, without, without_peer}
 use Rattle.cb_state.specs.State.{RelayState}
-use Rattle.cb_journal.specs.declared.answer.Answer.{Answer}
-use Rattle.cb_journal.specs.declared.entry.Entry.{Entry}
-use Rattle.cb_journal.specs.declared.entry.Entry.TheVariants.{Asked, Kick, Opened, Submitted}
-use Rattle.cb_journal.specs.declared.entry.Local.TheVariants as local
-use Rattle.cb_journal.specs.declared.question.Question.{Question}
-use Rattle.cb_journal.specs.declared.question.Question.TheVariants as ask
-use Rattle.cb_journal.specs.Connections.{Slots, is_kicked}
-use Rattle.cb_journal.specs.Journal.{JournalState}
-use Rattle.cb_journal.specs.Replica.{Leads, ReplicaState, Tells, opening}
-use Rattle.cb_journal.specs.Replies.{Answers, Replies, giver}
+use Rattle.cb_hall.specs.declared.answer.Answer.{Answer}
+use Rattle.cb_hall.specs.declared.entry.Entry.{Entry}
+use Rattle.cb_hall.specs.declared.entry.Entry.TheVariants.{Asked, Kick, Opened, Submitted}
+use Rattle.cb_hall.specs.declared.entry.Local.TheVariants as local
+use Rattle.cb_hall.specs.declared.question.Question.{Question}
+use Rattle.cb_hall.specs.declared.question.Question.TheVariants as ask
+use Rattle.cb_hall.specs.Connections.{Slots, is_kicked}
+use Rattle.cb_hall.specs.Journal.{JournalState}
+use Rattle.cb_hall.specs.Replica.{Leads, ReplicaState, Tells, opening}
+use Rattle.cb_hall.specs.Replies.{Answers, Replies, giver}
 use Rattle.cb_hall.specs.Hall.{HasHistory}
 use Rattle.cb_hall.specs.Laws.{AreApart}
 use Rattle.cb_hall.proofs.Growing.{history_leads}

@@ -5,14 +5,14 @@ use Rattle.cb_chain.specs.Best.{best}
 use Rattle.cb_chain.specs.Laws.{height_in}
 use Rattle.cb_state.specs.declared.connection.Connection.{Connection}
 use Rattle.cb_state.specs.State.{RelayState}
-use Rattle.cb_journal.specs.declared.answer.Answer.{Answer}
-use Rattle.cb_journal.specs.declared.entry.Entry.{Entry}
-use Rattle.cb_journal.specs.declared.entry.Entry.TheVariants as entries
-use Rattle.cb_journal.specs.declared.entry.Local.{Local}
-use Rattle.cb_journal.specs.declared.question.Question.{Question}
-use Rattle.cb_journal.specs.Connections.{latest_of}
-use Rattle.cb_journal.specs.Journal.{JournalState, Notes}
-use Rattle.cb_journal.specs.Replica.{Leads, heard, opening}
+use Rattle.cb_hall.specs.declared.answer.Answer.{Answer}
+use Rattle.cb_hall.specs.declared.entry.Entry.{Entry}
+use Rattle.cb_hall.specs.declared.entry.Entry.TheVariants as entries
+use Rattle.cb_hall.specs.declared.entry.Local.{Local}
+use Rattle.cb_hall.specs.declared.question.Question.{Question}
+use Rattle.cb_hall.specs.Connections.{latest_of}
+use Rattle.cb_hall.specs.Journal.{JournalState, Notes}
+use Rattle.cb_hall.specs.Replica.{Leads, heard, opening}
 use Rattle.cb_hall.specs.Badge.{BadgeState, counted}
 use Rattle.cb_hall.specs.declared.summary.Look.{Look}
 

@@ -3,12 +3,12 @@ use Rattle.std.specs.Prelude.{◌≡◌, ℕ, ◌+◌, true, List, ◌++◌, len
 use Rattle.cb_base.specs.declared.fault.Fault.{Fault}
 use Rattle.cb_base.specs.declared.fault.Fault.TheVariants.{JournalFull}
 use Rattle.cb_state.specs.declared.connection.Connection.{Connection}
-use Rattle.cb_journal.specs.declared.answer.Answer.{Answer}
-use Rattle.cb_journal.specs.declared.entry.Entry.{Entry}
-use Rattle.cb_journal.specs.declared.entry.Entry.TheVariants.{Asked}
-use Rattle.cb_journal.specs.declared.question.Question.{Question}
-use Rattle.cb_journal.specs.Journal.{JournalState}
-use Rattle.cb_journal.specs.Replica.{Leads}
+use Rattle.cb_hall.specs.declared.answer.Answer.{Answer}
+use Rattle.cb_hall.specs.declared.entry.Entry.{Entry}
+use Rattle.cb_hall.specs.declared.entry.Entry.TheVariants.{Asked}
+use Rattle.cb_hall.specs.declared.question.Question.{Question}
+use Rattle.cb_hall.specs.Journal.{JournalState}
+use Rattle.cb_hall.specs.Replica.{Leads}
 use Rattle.cb_hall.specs.Badge.{BadgeState}
 use Rattle.cb_hall.specs.Hall.{HasHistory, IsFull}
 

@@ -2,15 +2,15 @@
 use Rattle.std.specs.Prelude.{◌≡◌, ◌≢◌, ⊤, ℕ, ◌+◌, ◌<◌, Bool, true, false, List, [], ◌∷◌, ◌++◌, length, filter, Option, None, Some}
 use Rattle.cb_state.specs.declared.connection.Connection.{Connection}
 use Rattle.cb_state.specs.Announcers.{is_among, same_connection}
-use Rattle.cb_journal.specs.declared.answer.Answer.{Answer}
-use Rattle.cb_journal.specs.declared.answer.Answer.TheVariants.{Kicked}
-use Rattle.cb_journal.specs.declared.connections.Connected.{Connected}
-use Rattle.cb_journal.specs.declared.entry.Entry.{Entry}
-use Rattle.cb_journal.specs.declared.entry.Entry.TheVariants.{Asked, Kick, Opened}
-use Rattle.cb_journal.specs.declared.question.Question.{Question}
-use Rattle.cb_journal.specs.Connections.{connected_of, is_kicked, most_peers}
-use Rattle.cb_journal.specs.Journal.{JournalState, Notes, new_journal}
-use Rattle.cb_journal.specs.Replica.{Leads, ReplicaState, Steps}
+use Rattle.cb_hall.specs.declared.answer.Answer.{Answer}
+use Rattle.cb_hall.specs.declared.answer.Answer.TheVariants.{Kicked}
+use Rattle.cb_hall.specs.declared.connections.Connected.{Connected}
+use Rattle.cb_hall.specs.declared.entry.Entry.{Entry}
+use Rattle.cb_hall.specs.declared.entry.Entry.TheVariants.{Asked, Kick, Opened}
+use Rattle.cb_hall.specs.declared.question.Question.{Question}
+use Rattle.cb_hall.specs.Connections.{connected_of, is_kicked, most_peers}
+use Rattle.cb_hall.specs.Journal.{JournalState, Notes, new_journal}
+use Rattle.cb_hall.specs.Replica.{Leads, ReplicaState, Steps}
 use Rattle.cb_hall.specs.Badge.{BadgeState, first_of, fresh_badge, marked}
 use Rattle.cb_hall.specs.Hall.{Grants, HasHistory, next_connection}
 

@@ -1,5 +1,11 @@
 pub mod Badge
+pub mod Connections
+pub mod Copying
 pub mod Hall
 pub mod Histories
+pub mod Journal
 pub mod Laws
 pub mod MinedBlock
+pub mod Replica
+pub mod Replies
+pub mod Weight

@@ -3,18 +3,18 @@
 use Rattle.std.specs.Prelude.{◌≡◌, ◌≢◌, ◌⊎◌, ◌+◌, true, List, [], ◌∷◌, ◌++◌, Any, None, Some, Err}
 use Rattle.std.specs.FinMap as finite
 use Rattle.cb_base.specs.declared.fault.Fault.TheVariants.{BadParent, Known, Remade, TooMany}
-use Rattle.cb_tx.specs.declared.tx.OutPoint.{OutPoint}
-use Rattle.cb_tx.specs.declared.tx.Tx.{Tx}
-use Rattle.cb_tx.specs.Rules.{IsCoinbase}
+use Rattle.cb_block.specs.declared.tx.OutPoint.{OutPoint}
+use Rattle.cb_block.specs.declared.tx.Tx.{Tx}
+use Rattle.cb_block.specs.TxRules.{IsCoinbase}
 use Rattle.cb_block.specs.declared.block.Block.{Block}
 use Rattle.cb_block.specs.declared.header.Header.{Header}
-use Rattle.cb_block.specs.Text.{header_text}
+use Rattle.cb_block.specs.BlockText.{header_text}
 use Rattle.cb_ledger.specs.Spend.{spend}
 use Rattle.cb_ledger.specs.Unspent.{Unspent}
 use Rattle.cb_chain.specs.Best.{active, best}
 use Rattle.cb_chain.specs.Entries.{Entry, Tree, block_hash, block_of, entry_of, is_marked}
 use Rattle.cb_chain.specs.Laws.{height_in}
-use Rattle.cb_pool.specs.Rules.{txid_of}
+use Rattle.cb_block.specs.Txid.{txid_of}
 use Rattle.cb_state.specs.declared.accepting.Taken.{Taken}
 use Rattle.cb_state.specs.State.{IsUnspent, RelayState}
 

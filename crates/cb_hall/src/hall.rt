@@ -1,20 +1,25 @@
 ghost use Rattle.std.specs.Prelude.{◌≡◌, ◌≢◌, ◌↔◌, ◌⊎◌, ◌^◌, ◌-◌, ◌<◌, ◌≤◌, List, [], None, Option, IfErr, IfOk, IsErrOf, IsOkUnless, OnErr, OnOk, length};
 ghost use Rattle.cb_base.specs.declared.fault.Fault.TheVariants.{JournalFull, Memory, NoMore};
-ghost use Rattle.cb_journal.specs.declared.answer.Answer.{Answer};
-ghost use Rattle.cb_journal.specs.declared.entry.Entry.{Entry};
-ghost use Rattle.cb_journal.specs.declared.entry.Entry.TheVariants as entries;
-ghost use Rattle.cb_journal.specs.Connections.{first_slots, latest_of, most_peers};
-ghost use Rattle.cb_journal.specs.Journal.{IsBounded, Notes, new_journal};
-ghost use Rattle.cb_journal.specs.Replica.{AreFit, IsFit, Leads};
+ghost use Rattle.cb_hall.specs.declared.answer.Answer.{Answer};
+ghost use Rattle.cb_hall.specs.declared.entry.Entry.{Entry};
+ghost use Rattle.cb_hall.specs.declared.entry.Entry.TheVariants as entries;
+ghost use Rattle.cb_hall.specs.Connections.{first_slots, latest_of, most_peers};
+ghost use Rattle.cb_hall.specs.Journal.{IsBounded, Notes, new_journal};
+ghost use Rattle.cb_hall.specs.Replica.{AreFit, IsFit, Leads};
 ghost use Rattle.cb_state.specs.Mining.{CannotMine, IsMined};
 ghost use Rattle.cb_hall.specs.Badge.{AreBadges, fresh_badge, marked};
 ghost use Rattle.cb_hall.specs.Hall.{Grants, Grows, HasHistory, IsFull, NotesAll, Submitted, look_of, latest_connection, next_connection};
 
+use crate::answer::Answer;
 use crate::badge::{Badge, first_badges};
+use crate::connections::Connections;
+use crate::entry::{Entry, Local};
+use crate::journal::Journal;
+use crate::question::Question;
+use crate::replica::MOST_CALLS;
 use crate::summary::Look;
 use cb_base::{Fault, Seed};
 use cb_block::SoundBlock;
-use cb_journal::{Answer, Connections, Entry, Journal, Local, MOST_CALLS, Question};
 use cb_state::{Connection, Relay};
 use std::alloc::Global;
 use std::marker::Model;
@@ -28,34 +33,29 @@ use std::marker::Model;
 /// call leaves the hall unchanged. If the journal has 1,000,000 entries, or they would count for
 /// more than 64,000,000 bytes with the next one, the journal starts over and holds that entry
 /// alone. After 2^62 calls no more are granted.
-#[derive(Drop)]
 pub struct Hall {
     journal: Journal,
 }
 
 impl Model for Hall {
-    ghost use Rattle.cb_journal.specs.Journal.{JournalState};
+    ghost use Rattle.cb_hall.specs.Journal.{JournalState};
 
     ghost Value = { JournalState };
 
     ghost view = { λ hall. hall.journal };
 }
 
+impl Drop for Hall {
+    fn drop(self) {
+        let Hall { journal: _ } = self;
+    }
+}
+
 impl Hall {
     /// Returns a hall without calls, and the badges of the first connections of the peers 0, 1, and
-    /// so on. The hall's tables have the fixed seed. Fails only with `Fault::Memory`.
-    pub fn new(alloc: Global, peers: u16) -> Result<(Hall, Vec<Badge>), Fault>
-        requires some { 1 ≤ peers }
-        requires limit { peers ≤ most_peers }
-        ensures hall { IfOk result (λ made. made.0 ≡ new_journal) }
-        ensures badges { IfOk result (λ made. AreBadges peers made.1.items) }
-        ensures memory { IsOkUnless result Memory }
-    {
-        Hall::with_seed(alloc, peers, Seed::fixed())
-    }
-
-    /// As `new`. The hall's tables have this seed, which changes no result. Peers choose the keys
-    /// of these tables, so a seed that no peer knows keeps a lookup short.
+    /// so on. The hall's tables have this seed, which changes no result. Peers choose the keys of
+    /// these tables, so a seed that no peer knows keeps a lookup short. Fails only with
+    /// `Fault::Memory`.
     pub fn with_seed(alloc: Global, peers: u16, seed: Seed) -> Result<(Hall, Vec<Badge>), Fault>
         requires some { 1 ≤ peers }
         requires limit { peers ≤ most_peers }
@@ -267,28 +267,17 @@ impl Hall {
     }
 
     /// Returns the hall that these calls lead to: a new journal notes them one after another. Each
-    /// call must be one that can come after those before it. The hall's tables have the fixed seed.
+    /// call must be one that can come after those before it. The hall's tables have this seed,
+    /// which changes no result.
     ///
     /// Fails with the first of these that applies:
     /// - `Fault::JournalFull` if there are more than 2^62 calls;
     /// - `Fault::Memory`.
-    pub fn replay(alloc: Global, calls: &[Entry]) -> Result<Hall, Fault>
-        requires { AreFit first_slots calls.now }
-        ensures past { IfOk result
-            (λ hall. (answers : List Answer) × HasHistory hall calls.now answers) }
-        // This fixes the state before the entries, the entries and the latest state.
-        ensures notes { IfOk result (λ hall. NotesAll new_journal calls.now hall) }
-        ensures full { IsErrOf result JournalFull ↔ (2 ^ 62 < length calls.now) }
-        ensures kinds { IfErr result (λ fault. (fault ≡ JournalFull) ⊎ (fault ≡ Memory)) }
-    {
-        Hall::replay_with_seed(alloc, calls, Seed::fixed())
-    }
-
-    /// As `replay`. The hall's tables have this seed, which changes no result.
     pub fn replay_with_seed(alloc: Global, calls: &[Entry], seed: Seed) -> Result<Hall, Fault>
         requires { AreFit first_slots calls.now }
         ensures past { IfOk result
             (λ hall. (answers : List Answer) × HasHistory hall calls.now answers) }
+        // This fixes the state before the entries, the entries and the latest state.
         ensures notes { IfOk result (λ hall. NotesAll new_journal calls.now hall) }
         ensures full { IsErrOf result JournalFull ↔ (2 ^ 62 < length calls.now) }
         ensures kinds { IfErr result (λ fault. (fault ≡ JournalFull) ⊎ (fault ≡ Memory)) }

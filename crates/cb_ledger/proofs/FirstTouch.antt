@@ -6,12 +6,12 @@ use Rattle.cb_base.specs.declared.hash.Hash256.{Hash256}
 use Rattle.cb_base.specs.DoubleHash.{double_hash}
 use Rattle.cb_base.specs.Reading.{◌>>=◌}
 use Rattle.cb_base.proofs.Fields.{ok_is}
-use Rattle.cb_tx.specs.declared.tx.OutPoint.{OutPoint}
-use Rattle.cb_tx.specs.declared.tx.TxIn.{TxIn}
-use Rattle.cb_tx.specs.declared.tx.TxOut.{TxOut}
-use Rattle.cb_tx.specs.declared.tx.Tx.{Tx}
-use Rattle.cb_tx.specs.Rules.{value_sum}
-use Rattle.cb_tx.specs.Text.{tx_text}
+use Rattle.cb_block.specs.declared.tx.OutPoint.{OutPoint}
+use Rattle.cb_block.specs.declared.tx.TxIn.{TxIn}
+use Rattle.cb_block.specs.declared.tx.TxOut.{TxOut}
+use Rattle.cb_block.specs.declared.tx.Tx.{Tx}
+use Rattle.cb_block.specs.TxRules.{value_sum}
+use Rattle.cb_block.specs.TxText.{tx_text}
 use Rattle.cb_ledger.specs.declared.undo.CoinChange.{CoinChange}
 use Rattle.cb_ledger.specs.Spend.{is_coinbase, spend_inputs, spend_tx, take_output}
 use Rattle.cb_ledger.specs.Touched.{MakesFirst, SpendsFirst, Touches, TouchesOne}

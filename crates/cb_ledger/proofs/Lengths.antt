@@ -8,10 +8,10 @@ use Rattle.std.proofs.lemmas.List.Concat.{flat_map-cons}
 use Rattle.cb_base.specs.declared.fault.TxRule.TheVariants.{TooLong}
 use Rattle.cb_base.specs.CompactSize.{compact_text}
 use Rattle.cb_base.proofs.Compact.{compact_long}
-use Rattle.cb_tx.specs.declared.tx.TxOut.{TxOut}
-use Rattle.cb_tx.specs.declared.tx.Tx.{Tx}
-use Rattle.cb_tx.specs.Rules.{MeetsRules}
-use Rattle.cb_tx.specs.Text.{script_text, input_text, output_text, list_text, tx_text}
+use Rattle.cb_block.specs.declared.tx.TxOut.{TxOut}
+use Rattle.cb_block.specs.declared.tx.Tx.{Tx}
+use Rattle.cb_block.specs.TxRules.{MeetsRules}
+use Rattle.cb_block.specs.TxText.{script_text, input_text, output_text, list_text, tx_text}
 
 output_long : (o : TxOut) → 1 ≤ length (output_text o)
 unfolding output_text script_text

@@ -16,12 +16,12 @@ use Rattle.cb_base.specs.declared.hash.Hash256.{Hash256}
 use Rattle.cb_base.specs.DoubleHash.{double_hash}
 use Rattle.cb_base.specs.Reading.{◌>>=◌}
 use Rattle.cb_base.proofs.Fields.{bind_ok, ok_is}
-use Rattle.cb_tx.specs.declared.tx.OutPoint.{OutPoint}
-use Rattle.cb_tx.specs.declared.tx.TxIn.{TxIn}
-use Rattle.cb_tx.specs.declared.tx.TxOut.{TxOut}
-use Rattle.cb_tx.specs.declared.tx.Tx.{Tx}
-use Rattle.cb_tx.specs.Rules.{value_sum}
-use Rattle.cb_tx.specs.Text.{tx_text}
+use Rattle.cb_block.specs.declared.tx.OutPoint.{OutPoint}
+use Rattle.cb_block.specs.declared.tx.TxIn.{TxIn}
+use Rattle.cb_block.specs.declared.tx.TxOut.{TxOut}
+use Rattle.cb_block.specs.declared.tx.Tx.{Tx}
+use Rattle.cb_block.specs.TxRules.{value_sum}
+use Rattle.cb_block.specs.TxText.{tx_text}
 use Rattle.cb_ledger.specs.Unspent.{Unspent, outpoint_cmp, sum_of, total}
 use Rattle.cb_ledger.specs.Spend.{is_coinbase, take_output, spend_inputs, make_outputs, spend_tx, spend, coinbase_value}
 use Rattle.cb_ledger.proofs.Outpoints.{total_order, is_same, is_same-true, is_same-refl, maps_same, get_insert, get_remove}

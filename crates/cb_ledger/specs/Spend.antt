@@ -9,12 +9,12 @@ use Rattle.cb_base.specs.declared.fault.Fault.TheVariants.{Memory, NoInput, Over
 use Rattle.cb_base.specs.declared.hash.Hash256.{Hash256}
 use Rattle.cb_base.specs.DoubleHash.{double_hash}
 use Rattle.cb_base.specs.Reading.{◌>>=◌}
-use Rattle.cb_tx.specs.declared.tx.OutPoint.{OutPoint}
-use Rattle.cb_tx.specs.declared.tx.TxIn.{TxIn}
-use Rattle.cb_tx.specs.declared.tx.TxOut.{TxOut}
-use Rattle.cb_tx.specs.declared.tx.Tx.{Tx}
-use Rattle.cb_tx.specs.Rules.{value_sum}
-use Rattle.cb_tx.specs.Text.{tx_text}
+use Rattle.cb_block.specs.declared.tx.OutPoint.{OutPoint}
+use Rattle.cb_block.specs.declared.tx.TxIn.{TxIn}
+use Rattle.cb_block.specs.declared.tx.TxOut.{TxOut}
+use Rattle.cb_block.specs.declared.tx.Tx.{Tx}
+use Rattle.cb_block.specs.TxRules.{value_sum}
+use Rattle.cb_block.specs.TxText.{tx_text}
 use Rattle.cb_ledger.specs.Unspent.{Unspent}
 
 -- the null outpoint: txid zero and index ffffffff

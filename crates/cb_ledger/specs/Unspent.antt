@@ -5,7 +5,7 @@ use Rattle.std.specs.Cmp.Lexicographic.{slice_cmp}
 use Rattle.std.specs.FinMap as map
 use Rattle.std.specs.Ordering.{nat_cmp, ordering_then}
 use Rattle.std.specs.declared.cmp.Ordering.{Ordering}
-use Rattle.cb_tx.specs.declared.tx.OutPoint.{OutPoint}
+use Rattle.cb_block.specs.declared.tx.OutPoint.{OutPoint}
 
 -- the order of outpoints: by the bytes of the txid, then by the index
 abbrev pub outpoint_cmp : OutPoint → OutPoint → Ordering

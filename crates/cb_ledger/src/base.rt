@@ -7,7 +7,7 @@ use crate::ledger::Ledger;
 use crate::overlay::Overlay;
 use crate::undo::{CoinChange, Undo};
 use cb_base::{Fault, Seed};
-use cb_tx::OutPoint;
+use cb_block::OutPoint;
 use std::alloc::Global;
 use std::marker::Model;
 

@@ -1,8 +1,8 @@
 ghost use Rattle.std.specs.Prelude.{◌≡◌, ◌≢◌, ◌⊎◌, ◌<◌, ◌^◌, [], length, All, Err, IfOk};
 ghost use Rattle.cb_base.specs.declared.fault.Fault.TheVariants.{Memory};
 ghost use Rattle.cb_base.specs.DoubleHash.{double_hash};
-ghost use Rattle.cb_tx.specs.Rules.{value_sum};
-ghost use Rattle.cb_tx.specs.Text.{tx_text};
+ghost use Rattle.cb_block.specs.TxRules.{value_sum};
+ghost use Rattle.cb_block.specs.TxText.{tx_text};
 ghost use Rattle.cb_block.specs.Blocks.{texts};
 ghost use Rattle.cb_block.specs.Soundness.{names};
 ghost use Rattle.cb_ledger.specs.Spend.{make_outputs as outputs_made, spend, spend_inputs as inputs_spent, spend_tx as tx_spent, Tells};
@@ -13,8 +13,7 @@ use crate::base::Base;
 use crate::overlay::Overlay;
 use crate::undo::Undo;
 use cb_base::{Fault, Hash256, Shared};
-use cb_block::SoundBlock;
-use cb_tx::{OutPoint, Tx, TxIn, TxOut};
+use cb_block::{OutPoint, SoundBlock, Tx, TxIn, TxOut};
 use std::alloc::Global;
 
 /// The sum of the values of outputs, in satoshis.

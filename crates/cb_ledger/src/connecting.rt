@@ -37,7 +37,7 @@ fn changes_of(ledger: &Ledger, block: &SoundBlock) -> Result<Undo, Fault>
     ensures unpaid { Touches ledger.now.unspent block.now.txs
         ⊎ (IfOk result (λ changes. changes ≡ []) × (result ≢ Err Memory)) }
 {
-    let none = Overlay::new(ledger.alloc);
+    let none = Overlay::with_seed(ledger.alloc, ledger.seed());
     changes_over(ledger.alloc, &Base::new(ledger, &none), block)
 }
 

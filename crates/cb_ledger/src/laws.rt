@@ -3,9 +3,9 @@
 ghost use Rattle.std.specs.Prelude.{◌≡◌, ◌≢◌, ◌<◌, ◌^◌, ◌⊎◌, ◌↔◌, ◌++◌, ◌+ℤ◌, ◌≤ℤ◌, length, List, All, IsOk, IsTrue, MatchResult, Ok, Err, None};
 ghost use Rattle.std.specs.FinMap as map;
 ghost use Rattle.cb_base.specs.declared.fault.Fault.TheVariants.{Memory};
-ghost use Rattle.cb_tx.specs.Rules.{IsCoinbase, MeetsRules};
-ghost use Rattle.cb_tx.specs.declared.tx.OutPoint.{OutPoint};
-ghost use Rattle.cb_tx.specs.declared.tx.Tx.{Tx};
+ghost use Rattle.cb_block.specs.TxRules.{IsCoinbase, MeetsRules};
+ghost use Rattle.cb_block.specs.declared.tx.OutPoint.{OutPoint};
+ghost use Rattle.cb_block.specs.declared.tx.Tx.{Tx};
 ghost use Rattle.cb_ledger.specs.Spend.{coinbase_value, is_coinbase, spend};
 ghost use Rattle.cb_ledger.specs.Touched.{IsMade, IsSpent};
 ghost use Rattle.cb_ledger.specs.Unspent.{Unspent, total};

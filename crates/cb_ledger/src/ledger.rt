@@ -4,14 +4,13 @@ ghost use Rattle.cb_base.specs.declared.fault.Fault.TheVariants.{Memory};
 ghost use Rattle.cb_ledger.specs.Undo.{set_at};
 
 use cb_base::{Fault, Seed};
-use cb_tx::OutPoint;
+use cb_block::OutPoint;
 use std::alloc::Global;
 use std::collections::HashMap;
 use std::marker::Model;
 
 /// The UTXO set. Contracts see a finite map from outpoints to values in satoshis, and the room that
 /// is reserved: for how many more outputs it can take without allocating.
-#[derive(Drop)]
 pub struct Ledger {
     pub(crate) alloc: Global,
     outputs: HashMap<OutPoint, i64, Seed>,
@@ -30,16 +29,18 @@ impl Model for Ledger {
         record { unspent = map.from_entries ledger.outputs.entries; room = spare ledger.outputs } };
 }
 
-impl Ledger {
-    /// An empty ledger: nothing is unspent. Its table has the fixed seed.
-    pub fn new(alloc: Global) -> Ledger
-        ensures { result.unspent ≡ map.empty }
-    {
-        Ledger::with_seed(alloc, Seed::fixed())
+impl Drop for Ledger {
+    fn drop(self) {
+        let Ledger {
+            alloc: _,
+            outputs: _,
+        } = self;
     }
+}
 
-    /// An empty ledger whose table has this seed, and so the tables of all changes over it. The
-    /// seed changes no result.
+impl Ledger {
+    /// An empty ledger: nothing is unspent. Its table has this seed, and so have the tables of all
+    /// changes over it. The seed changes no result.
     pub fn with_seed(alloc: Global, seed: Seed) -> Ledger
         ensures { result.unspent ≡ map.empty }
     {

@@ -12,8 +12,7 @@ use crate::checking::changes_over;
 use crate::ledger::Ledger;
 use crate::undo::{CoinChange, Undo};
 use cb_base::{Fault, Seed};
-use cb_block::SoundBlock;
-use cb_tx::OutPoint;
+use cb_block::{OutPoint, SoundBlock};
 use std::alloc::Global;
 use std::collections::HashMap;
 use std::marker::Model;
@@ -21,7 +20,6 @@ use std::marker::Model;
 /// What blocks change over a ledger that stays as it is (compare Bitcoin Core's `CCoinsViewCache`).
 /// It has each outpoint that the blocks touch, with its value after them, or none if it is spent.
 /// Contracts see the list of these changes.
-#[derive(Drop)]
 pub struct Overlay {
     touched: HashMap<OutPoint, Option<i64>, Seed>,
 }
@@ -34,6 +32,12 @@ impl Model for Overlay {
     ghost Value = { List CoinChange };
 
     ghost view = { λ overlay. changes_of overlay.touched.entries };
+}
+
+impl Drop for Overlay {
+    fn drop(self) {
+        let Overlay { touched: _ } = self;
+    }
 }
 
 /// Adds later changes on top: at an outpoint that both have, theirs wins. There must be room for
@@ -70,13 +74,6 @@ fn put_under(touched: &mut HashMap<OutPoint, Option<i64>, Seed>, changes: &[Coin
 }
 
 impl Overlay {
-    /// An overlay that changes nothing. Its table has the fixed seed.
-    pub fn new(alloc: Global) -> Overlay
-        ensures { result ≡ [] }
-    {
-        Overlay::with_seed(alloc, Seed::fixed())
-    }
-
     /// An overlay that changes nothing. Its table has this seed, which changes no result.
     pub fn with_seed(alloc: Global, seed: Seed) -> Overlay
         ensures { result ≡ [] }
@@ -186,7 +183,8 @@ impl Overlay {
         ensures memory { IsOkUnless result Memory }
     {
         let mut changes = Vec::with_capacity(alloc, self.touched.len())?;
-        for (point, value) in self.touched {
+        let Overlay { touched } = self;
+        for (point, value) in touched {
             changes.push(CoinChange { point, value })?;
         }
         Ok(Undo { changes })

@@ -2,7 +2,7 @@ ghost use Rattle.std.specs.Prelude.{◌≡◌, ◌==◌, [], length, IfOk, IsOk,
 ghost use Rattle.cb_base.specs.declared.fault.Fault.TheVariants.{Memory};
 
 use cb_base::Fault;
-use cb_tx::OutPoint;
+use cb_block::OutPoint;
 use std::alloc::Global;
 use std::marker::Model;
 

@@ -4,6 +4,8 @@ pub mod GoodEnds
 pub mod Listing
 pub mod Moments
 pub mod NetFaults
+pub mod Parts
+pub mod Relaying
 pub mod Settled
 pub mod Steps
 pub mod Told

@@ -6,11 +6,11 @@ use Rattle.std.proofs.lemmas.Option.{slice_get_past}
 use Rattle.std.proofs.lemmas.List.Concat.{flat_map-append}
 use Rattle.cb_audit.specs.Order.{AuditedTrace}
 use Rattle.cb_net_plan.specs.declared.roles.Role.{Role}
-use Rattle.cb_net_node.specs.declared.link.Link.{Link}
-use Rattle.cb_net_node.specs.declared.node.Node.{Node}
+use Rattle.cb_net_node.specs.declared.link.SimulatedLink.{SimulatedLink}
+use Rattle.cb_net_node.specs.declared.node.SimulatedNode.{SimulatedNode}
 use Rattle.cb_net.specs.Audits.{AreVerdicts, IsVerdict, side_at, traces_at, traces_on}
 use Rattle.cb_net.specs.Moments.{roles_in}
-use Rattle.cb_net.specs.declared.audits.Verdict.{Verdict}
+use Rattle.cb_net.specs.declared.audits.AuditVerdict.{AuditVerdict}
 
 pub one_more : {A : Type 0} (xs : List A) (n : ℕ) (here : A) → n < length xs → here ≡ get_or xs n here → take (n + 1) xs ≡ take n xs ++ here ∷ []
 one_more xs n here low is = take_more xs n here low ∙ ap (λ (x : _). take n xs ++ x ∷ []) (sym is)
@@ -39,36 +39,36 @@ pub behind_all : {A B : Type 0} (f : A → List B) (list so_far : List B) (xs : 
 behind_all f list so_far xs n is past = is ∙ ap (λ (l : List _). list ++ flat_map f l) (take_all n xs past)
 
 -- one verdict after another
-pub one_verdict_more : (links : List Link) (nodes : List Node) (verdicts : List Verdict) (node : Node) (verdict : Verdict) → AreVerdicts links nodes verdicts → IsVerdict links node verdict
+pub one_verdict_more : (links : List SimulatedLink) (nodes : List SimulatedNode) (verdicts : List AuditVerdict) (node : SimulatedNode) (verdict : AuditVerdict) → AreVerdicts links nodes verdicts → IsVerdict links node verdict
     → AreVerdicts links (nodes ++ node ∷ []) (verdicts ++ verdict ∷ [])
 one_verdict_more links [] [] node verdict are is = (is, tt)
 one_verdict_more links [] (one ∷ verdicts) node verdict are is = absurd are
 one_verdict_more links (one ∷ nodes) [] node verdict are is = absurd are
 one_verdict_more links (one ∷ nodes) (first ∷ verdicts) node verdict are is = (are.0, one_verdict_more links nodes verdicts node verdict are.1 is)
 
-pub verdicts_more : (links : List Link) (nodes : List Node) (so_far more : List Verdict) (n : ℕ) (node : Node) (verdict : Verdict) → AreVerdicts links (take n nodes) so_far → n < length nodes → node ≡ get_or nodes n node
+pub verdicts_more : (links : List SimulatedLink) (nodes : List SimulatedNode) (so_far more : List AuditVerdict) (n : ℕ) (node : SimulatedNode) (verdict : AuditVerdict) → AreVerdicts links (take n nodes) so_far → n < length nodes → node ≡ get_or nodes n node
     → more ≡ so_far ++ verdict ∷ [] → IsVerdict links node verdict → AreVerdicts links (take (n + 1) nodes) more
 verdicts_more links nodes so_far more n node verdict are low own added is =
-    let P : List Node → Type 0 = λ list. AreVerdicts links list more in
-    let Q : List Verdict → Type 0 = λ list. AreVerdicts links (take n nodes ++ node ∷ []) list in
+    let P : List SimulatedNode → Type 0 = λ list. AreVerdicts links list more in
+    let Q : List AuditVerdict → Type 0 = λ list. AreVerdicts links (take n nodes ++ node ∷ []) list in
     subst P (sym (one_more nodes n node low own)) (subst Q (sym added) (one_verdict_more links (take n nodes) so_far node verdict are is))
 
-pub verdicts_all : (links : List Link) (nodes : List Node) (verdicts : List Verdict) (n : ℕ) → AreVerdicts links (take n nodes) verdicts → length nodes ≤ n → AreVerdicts links nodes verdicts
+pub verdicts_all : (links : List SimulatedLink) (nodes : List SimulatedNode) (verdicts : List AuditVerdict) (n : ℕ) → AreVerdicts links (take n nodes) verdicts → length nodes ≤ n → AreVerdicts links nodes verdicts
 verdicts_all links nodes verdicts n are past =
-    let P : List Node → Type 0 = λ list. AreVerdicts links list verdicts in
+    let P : List SimulatedNode → Type 0 = λ list. AreVerdicts links list verdicts in
     subst P (take_all n nodes past) are
 
 -- one node after another
-pub roles_more : (so_far more : List Node) (roles : List Role) (n : ℕ) (role : Role) (node : Node) → roles_in so_far ≡ take n roles → n < length roles → role ≡ get_or roles n role → node.role ≡ role
+pub roles_more : (so_far more : List SimulatedNode) (roles : List Role) (n : ℕ) (role : Role) (node : SimulatedNode) → roles_in so_far ≡ take n roles → n < length roles → role ≡ get_or roles n role → node.role ≡ role
     → more ≡ so_far ++ node ∷ [] → roles_in more ≡ take (n + 1) roles
 roles_more so_far more roles n role node is low own like added =
-    ap roles_in added ∙ map-append (λ (one : Node). one.role) so_far (node ∷ []) ∙ ap (λ (l : List Role). l ++ node.role ∷ []) is
+    ap roles_in added ∙ map-append (λ (one : SimulatedNode). one.role) so_far (node ∷ []) ∙ ap (λ (l : List Role). l ++ node.role ∷ []) is
     ∙ ap (λ (r : Role). take n roles ++ r ∷ []) like ∙ sym (one_more roles n role low own)
 
-pub roles_all : (nodes : List Node) (roles : List Role) (n : ℕ) → roles_in nodes ≡ take n roles → length roles ≤ n → roles_in nodes ≡ roles
+pub roles_all : (nodes : List SimulatedNode) (roles : List Role) (n : ℕ) → roles_in nodes ≡ take n roles → length roles ≤ n → roles_in nodes ≡ roles
 roles_all nodes roles n is past = is ∙ take_all n roles past
 
 -- there is no such link
-pub none_there : (links : List Link) (end : ℕ) (list : List AuditedTrace) → length links ≤ end / 2 → list ≡ list ++ traces_at links end
+pub none_there : (links : List SimulatedLink) (end : ℕ) (list : List AuditedTrace) → length links ≤ end / 2 → list ≡ list ++ traces_at links end
 unfolding traces_at
-none_there links end list past = sym (ap (λ (one : Option Link). list ++ traces_on (side_at end) one) (slice_get_past links (end / 2) past) ∙ append-nil list)
+none_there links end list past = sym (ap (λ (one : Option SimulatedLink). list ++ traces_on (side_at end) one) (slice_get_past links (end / 2) past) ∙ append-nil list)

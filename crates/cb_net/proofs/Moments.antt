@@ -1,7 +1,7 @@
 -- From one moment of a network to a later one.
 use Rattle.std.proofs.Common.{◌≡◌, ◌∙◌, ℕ, List, refl, ap, arith, Some, None, false, get_or, option_map, set, slice_get}
 use Rattle.std.proofs.Math.Seq.{map-set_same}
-use Rattle.cb_net_node.specs.declared.node.Node.{Node}
+use Rattle.cb_net_node.specs.declared.node.SimulatedNode.{SimulatedNode}
 use Rattle.std.proofs.lemmas.Option.{slice_get-map}
 use Rattle.cb_net_node.specs.Nodes.{is_honest}
 use Rattle.cb_net.specs.Counting.{is_honest_at, is_honest_one}
@@ -31,14 +31,14 @@ pub ages_last : (a b : Net) → Ages a b → Lasts a b
 ages_last a b one = record { settings = one.settings; roles = one.roles; time = one.time; left = one.left }
 
 -- what a node's role says of it
-pub honest_here : (nodes : List Node) (place : ℕ) (node : Node) → slice_get nodes place ≡ Some node → is_honest_at (roles_in nodes) place ≡ is_honest node
+pub honest_here : (nodes : List SimulatedNode) (place : ℕ) (node : SimulatedNode) → slice_get nodes place ≡ Some node → is_honest_at (roles_in nodes) place ≡ is_honest node
 honest_here nodes place node here =
-    ap is_honest_one (slice_get-map (λ (one : Node). one.role) nodes place ∙ ap (option_map (λ (one : Node). one.role)) here)
+    ap is_honest_one (slice_get-map (λ (one : SimulatedNode). one.role) nodes place ∙ ap (option_map (λ (one : SimulatedNode). one.role)) here)
 
-pub honest_nowhere : (nodes : List Node) (place : ℕ) → slice_get nodes place ≡ None → is_honest_at (roles_in nodes) place ≡ false
+pub honest_nowhere : (nodes : List SimulatedNode) (place : ℕ) → slice_get nodes place ≡ None → is_honest_at (roles_in nodes) place ≡ false
 honest_nowhere nodes place here =
-    ap is_honest_one (slice_get-map (λ (one : Node). one.role) nodes place ∙ ap (option_map (λ (one : Node). one.role)) here)
+    ap is_honest_one (slice_get-map (λ (one : SimulatedNode). one.role) nodes place ∙ ap (option_map (λ (one : SimulatedNode). one.role)) here)
 
 -- a node is replaced by one that is like it
-pub roles_set : (nodes : List Node) (place : ℕ) (node : Node) → node.role ≡ (get_or nodes place node).role → roles_in (set nodes place node) ≡ roles_in nodes
-roles_set nodes place node same = map-set_same (λ (one : Node). one.role) nodes place node node same
+pub roles_set : (nodes : List SimulatedNode) (place : ℕ) (node : SimulatedNode) → node.role ≡ (get_or nodes place node).role → roles_in (set nodes place node) ≡ roles_in nodes
+roles_set nodes place node same = map-set_same (λ (one : SimulatedNode). one.role) nodes place node node same

@@ -4,7 +4,7 @@ use Rattle.std.specs.List.{AllByRecursion}
 use Rattle.cb_net_node.specs.Nodes.{is_honest}
 use Rattle.cb_net.specs.Audits.{IsVerdict}
 use Rattle.cb_net.specs.Ending.{agrees, first_tip}
-use Rattle.cb_net.specs.declared.audits.Verdict.TheVariants.{Yes}
+use Rattle.cb_net.specs.declared.audits.AuditVerdict.TheVariants.{Yes}
 use Rattle.cb_net.specs.declared.net.Net.{Net}
 
 -- The hall of each honest node has the tip that is told. If audits are asked for, the audit of each

@@ -4,5 +4,10 @@ pub mod Ending
 pub mod Faults
 pub mod GoodEnd
 pub mod Moments
+pub mod NetEnding
+pub mod Played
+pub mod Playing
 pub mod Results
+pub mod Times
 pub mod Totals
+pub mod TrafficText

@@ -1,12 +1,12 @@
 -- From one moment of a network to a later one.
 use Rattle.std.specs.Prelude.{◌≡◌, ◌≤◌, List, map}
 use Rattle.cb_net_plan.specs.declared.roles.Role.{Role}
-use Rattle.cb_net_node.specs.declared.node.Node.{Node}
+use Rattle.cb_net_node.specs.declared.node.SimulatedNode.{SimulatedNode}
 use Rattle.cb_net.specs.declared.net.Net.{Net}
 use Rattle.cb_net.specs.declared.world.World.{World}
 
 -- what each node is like, in the order of their numbers
-abbrev pub roles_in : List Node → List Role
+abbrev pub roles_in : List SimulatedNode → List Role
 roles_in nodes = map (λ node. node.role) nodes
 
 -- Each node is like before, and virtual time didn't go back.

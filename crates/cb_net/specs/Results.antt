@@ -4,7 +4,7 @@ use Rattle.cb_base.specs.declared.hash.Hash256.{Hash256}
 use Rattle.cb_base.specs.DoubleHash.{double_hash}
 use Rattle.cb_block.specs.Blocks.{texts}
 use Rattle.cb_block.specs.Soundness.{names}
-use Rattle.cb_block.specs.Text.{header_text}
+use Rattle.cb_block.specs.BlockText.{header_text}
 use Rattle.cb_block.specs.declared.block.Block.{Block}
 use Rattle.cb_net_node.specs.Arrivals.{AreArrivals, part_of, time_by}
 use Rattle.cb_net_node.specs.declared.results.Arrivals.{Arrivals}

@@ -9,13 +9,12 @@ use crate::world::World;
 use cb_audit::{Audited, Split, are_in_order, audit};
 use cb_base::Fault;
 use cb_hall::Hall;
-use cb_net_link::Side;
-use cb_net_node::{Joined, Link, Node};
+use cb_net_node::{Joined, Side, SimulatedLink, SimulatedNode};
 use std::alloc::Global;
 
 /// What comes of a node's audit.
 #[derive(Clone, Copy, Drop)]
-pub enum Verdict {
+pub enum AuditVerdict {
     /// Nothing: the node isn't honest.
     Nothing,
     /// Its hall's journal and the traces of its connections tell one history.
@@ -24,14 +23,14 @@ pub enum Verdict {
     No(Split),
 }
 
-impl Verdict {
+impl AuditVerdict {
     /// Whether it is a yes.
     pub(crate) fn is_yes(&self) -> bool
         ensures { result ≡ is_yes self.now }
     {
         match self {
-            Verdict::Yes => true,
-            Verdict::Nothing | Verdict::No(_) => false,
+            AuditVerdict::Yes => true,
+            AuditVerdict::Nothing | AuditVerdict::No(_) => false,
         }
     }
 
@@ -40,8 +39,8 @@ impl Verdict {
         ensures { result ≡ is_no self.now }
     {
         match self {
-            Verdict::No(_) => true,
-            Verdict::Nothing | Verdict::Yes => false,
+            AuditVerdict::No(_) => true,
+            AuditVerdict::Nothing | AuditVerdict::Yes => false,
         }
     }
 }
@@ -49,7 +48,7 @@ impl Verdict {
 impl World {
     /// The verdicts on all nodes, in order. Fails only with `Fault::Memory`.
     #[tactic(auto, using(crate::proofs::Listing::verdicts_more, crate::proofs::Listing::verdicts_all))]
-    pub(crate) fn verdicts(&self) -> Result<Vec<Verdict>, Fault>
+    pub(crate) fn verdicts(&self) -> Result<Vec<AuditVerdict>, Fault>
         ensures all { IfOk result
             (λ all. AreVerdicts self.now.links.items self.now.nodes.items all.items) }
         ensures memory { IsOkUnless result Memory }
@@ -63,16 +62,16 @@ impl World {
 
     /// The verdict on a node. Fails only with `Fault::Memory`.
     #[tactic(auto, unfolding(crate::specs::Audits::IsVerdict))]
-    pub(crate) fn judge(&self, node: &Node) -> Result<Verdict, Fault>
+    pub(crate) fn judge(&self, node: &SimulatedNode) -> Result<AuditVerdict, Fault>
         ensures verdict { IfOk result
             (λ verdict. IsVerdict self.now.links.items node.now verdict) }
         ensures memory { IsOkUnless result Memory }
     {
         if !node.is_honest() {
-            return Ok(Verdict::Nothing);
+            return Ok(AuditVerdict::Nothing);
         }
         let Some(hall) = &node.hall else {
-            return Ok(Verdict::No(Split::Memory));
+            return Ok(AuditVerdict::No(Split::Memory));
         };
         let traces = traces(self.alloc, self.links.as_slice(), node)?;
         Ok(said(self.alloc, hall, traces.as_slice()))
@@ -80,21 +79,25 @@ impl World {
 }
 
 /// What the audit of a hall and these traces says. Traces that aren't in order count as a no.
-fn said(alloc: Global, hall: &Hall, traces: &[Audited]) -> Verdict
+fn said(alloc: Global, hall: &Hall, traces: &[Audited]) -> AuditVerdict
     ensures { IsSaid hall.now traces.now result }
 {
     if !are_in_order(traces) {
-        return Verdict::No(Split::Memory);
+        return AuditVerdict::No(Split::Memory);
     }
     match audit(alloc, hall, traces) {
-        Ok(_) => Verdict::Yes,
-        Err(split) => Verdict::No(split),
+        Ok(_) => AuditVerdict::Yes,
+        Err(split) => AuditVerdict::No(split),
     }
 }
 
 /// The traces of all connections of a node's hall. Fails only with `Fault::Memory`.
 #[tactic(auto, using(crate::proofs::Listing::flat_more, crate::proofs::Listing::flat_all), unfolding(crate::specs::Audits::traces_of))]
-fn traces<'a>(alloc: Global, links: &'a [Link], node: &Node) -> Result<Vec<Audited<'a>>, Fault>
+fn traces<'a>(
+    alloc: Global,
+    links: &'a [SimulatedLink],
+    node: &SimulatedNode,
+) -> Result<Vec<Audited<'a>>, Fault>
     ensures all { IfOk result (λ all. all.items ≡ traces_of links.now node.now) }
     ensures memory { IsOkUnless result Memory }
 {
@@ -110,7 +113,7 @@ fn traces<'a>(alloc: Global, links: &'a [Link], node: &Node) -> Result<Vec<Audit
 #[tactic(auto, unfolding(crate::specs::Audits::traces_at))]
 fn with_end<'a>(
     list: Vec<Audited<'a>>,
-    links: &'a [Link],
+    links: &'a [SimulatedLink],
     end: u32,
 ) -> Result<Vec<Audited<'a>>, Fault>
     ensures more { IfOk result
@@ -126,7 +129,7 @@ fn with_end<'a>(
 /// The same for a side of a link.
 fn with_link<'a>(
     list: Vec<Audited<'a>>,
-    link: &'a Link,
+    link: &'a SimulatedLink,
     side: Side,
 ) -> Result<Vec<Audited<'a>>, Fault>
     ensures more { IfOk result (λ more. more.items

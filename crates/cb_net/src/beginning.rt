@@ -8,10 +8,8 @@ ghost use Rattle.cb_net.specs.Moments.{Ages, Relays, roles_in};
 use crate::net::Net;
 use crate::world::{Closed, World};
 use cb_base::{Fault, Hash256, Seed};
-use cb_net_load::Wallet;
-use cb_net_node::{Link, LinkEnd, Node, Traffic};
-use cb_net_plan::{Draws, NetSettings, Plan, PlannedLink, Role};
-use cb_net_queue::Queue;
+use cb_net_node::{LinkEnd, SimulatedLink, SimulatedNode, Traffic, Wallet};
+use cb_net_plan::{Draws, NetSettings, Plan, PlannedLink, Queue, Role};
 use std::alloc::Global;
 
 /// No connection was closed.
@@ -157,7 +155,13 @@ impl World {
         let number = place.saturating_mul(2);
         let first = self.add_end(planned.first, number)?;
         let second = self.add_end(planned.second, number.saturating_add(1))?;
-        self.links.push(Link::new(number, first, second, planned.latency, Vec::new(self.alloc)))?;
+        self.links.push(SimulatedLink::new(
+            number,
+            first,
+            second,
+            planned.latency,
+            Vec::new(self.alloc),
+        ))?;
         Ok(())
     }
 
@@ -194,13 +198,13 @@ impl World {
 
 /// The nodes of these roles. Fails only with `Fault::Memory`.
 #[tactic(auto, using(crate::proofs::Listing::roles_more, crate::proofs::Listing::roles_all))]
-fn nodes_of(alloc: Global, roles: &[Role]) -> Result<Vec<Node>, Fault>
+fn nodes_of(alloc: Global, roles: &[Role]) -> Result<Vec<SimulatedNode>, Fault>
     ensures roles { IfOk result (λ nodes. roles_in nodes.items ≡ roles.now) }
     ensures memory { IsOkUnless result Memory }
 {
     let mut nodes = Vec::with_capacity(alloc, roles.len())?;
     for role in roles {
-        nodes.push(Node::new(alloc, *role))?;
+        nodes.push(SimulatedNode::new(alloc, *role))?;
     }
     Ok(nodes)
 }

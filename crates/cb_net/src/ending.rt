@@ -7,14 +7,14 @@ ghost use Rattle.cb_net.specs.Ending.{AreMade, agrees, ending_of, first_tip};
 ghost use Rattle.cb_net.specs.Faults.{IsNetFault};
 ghost use Rattle.cb_net.specs.Moments.{Ages};
 ghost use Rattle.cb_net.specs.Totals.{Settles, SettlesAtLast};
-ghost use Rattle.cb_net.specs.declared.audits.Verdict.{Verdict};
+ghost use Rattle.cb_net.specs.declared.audits.AuditVerdict.{AuditVerdict};
 
-use crate::audits::Verdict;
+use crate::audits::AuditVerdict;
 use crate::net::Net;
 use crate::world::World;
 use cb_audit::Split;
 use cb_base::{Fault, Hash256};
-use cb_net_node::{Ending, Node, Traffic};
+use cb_net_node::{Ending, SimulatedNode, Traffic};
 
 impl Net {
     /// Ends the run: heals the network, and audits each honest node if that is asked for.
@@ -22,7 +22,7 @@ impl Net {
     /// Fails with `Fault::Memory`, and as a hall does.
     #[tactic(auto, using(crate::proofs::NetFaults::of_memory, crate::proofs::Settled::ages_settled))]
     pub fn finish(&mut self) -> Result<Ending, Fault>
-        ensures ending { IfOk result (λ ending. (verdicts : List Verdict)
+        ensures ending { IfOk result (λ ending. (verdicts : List AuditVerdict)
             × AreMade self.new verdicts × (ending ≡ ending_of self.new verdicts)) }
         ensures settles { OnOk result (SettlesAtLast self.old self.new) }
         ensures ages { Ages self.old self.new }
@@ -61,7 +61,7 @@ impl Net {
     }
 
     /// The verdicts on all nodes, if audits are asked for. Fails only with `Fault::Memory`.
-    fn verdicts(&self) -> Result<Vec<Verdict>, Fault>
+    fn verdicts(&self) -> Result<Vec<AuditVerdict>, Fault>
         ensures made { IfOk result (λ verdicts. AreMade self.now verdicts.items) }
         ensures memory { IsOkUnless result Memory }
     {
@@ -73,7 +73,7 @@ impl Net {
 
     /// How it ended, with these verdicts.
     #[tactic(auto, unfolding(crate::specs::Ending::ending_of))]
-    fn ending(&self, verdicts: &[Verdict]) -> Ending
+    fn ending(&self, verdicts: &[AuditVerdict]) -> Ending
         ensures { result ≡ ending_of self.now verdicts.now }
     {
         let (height, tip) = self.world.first_tip();
@@ -132,7 +132,7 @@ impl World {
 }
 
 /// Whether a node is honest and its hall has this tip.
-fn agrees(node: &Node, tip: &Hash256) -> bool
+fn agrees(node: &SimulatedNode, tip: &Hash256) -> bool
     ensures { result ≡ agrees tip.now node.now }
 {
     match node.look() {
@@ -142,7 +142,7 @@ fn agrees(node: &Node, tip: &Hash256) -> bool
 }
 
 /// How many of the verdicts are a yes.
-pub(crate) fn count_yes(verdicts: &[Verdict]) -> u64
+pub(crate) fn count_yes(verdicts: &[AuditVerdict]) -> u64
     ensures { result ≡ count_by is_yes verdicts.now }
 {
     let mut count = 0usize;
@@ -155,7 +155,7 @@ pub(crate) fn count_yes(verdicts: &[Verdict]) -> u64
 }
 
 /// How many of the verdicts are a no.
-pub(crate) fn count_no(verdicts: &[Verdict]) -> u64
+pub(crate) fn count_no(verdicts: &[AuditVerdict]) -> u64
     ensures { result ≡ count_by is_no verdicts.now }
 {
     let mut count = 0usize;
@@ -168,11 +168,11 @@ pub(crate) fn count_no(verdicts: &[Verdict]) -> u64
 }
 
 /// The first no, with the number of its node.
-fn first_refusal(verdicts: &[Verdict]) -> Option<(u32, Split)>
+fn first_refusal(verdicts: &[AuditVerdict]) -> Option<(u32, Split)>
     ensures { result ≡ refusal_in 0 verdicts.now }
 {
     for (place, verdict) in verdicts.iter().enumerate() {
-        if let Verdict::No(split) = verdict {
+        if let AuditVerdict::No(split) = verdict {
             return Some((u32::try_from(place).unwrap_or(u32::MAX), *split));
         }
     }

@@ -5,12 +5,12 @@ ghost use Rattle.cb_net.specs.Ending.{IsVerdictOn, Judged};
 ghost use Rattle.cb_net.specs.Faults.{IsNetFault};
 ghost use Rattle.cb_net.specs.Moments.{Ages, Relays};
 
-use crate::audits::Verdict;
+use crate::audits::AuditVerdict;
 use crate::ending::{count_no, count_yes};
 use crate::net::Net;
 use crate::world::World;
 use cb_base::Fault;
-use cb_net_link::Side;
+use cb_net_node::Side;
 
 impl Net {
     /// What goes wrong before a block. Links that ended are joined anew. The two parts of a network
@@ -129,13 +129,13 @@ impl Net {
 
 impl World {
     /// The verdict on the node of a number. Fails only with `Fault::Memory`.
-    fn verdict_on(&self, number: u32) -> Result<Verdict, Fault>
+    fn verdict_on(&self, number: u32) -> Result<AuditVerdict, Fault>
         ensures verdict { IfOk result (λ verdict. IsVerdictOn self.now number verdict) }
         ensures memory { IsOkUnless result Memory }
     {
         match self.nodes.as_slice().get(number as usize) {
             Some(node) => self.judge(node),
-            None => Ok(Verdict::Nothing),
+            None => Ok(AuditVerdict::Nothing),
         }
     }
 

@@ -7,8 +7,7 @@ use crate::net::Net;
 use crate::world::World;
 use cb_base::Fault;
 use cb_hall::Badge;
-use cb_net_link::{NetLink, Side, Start};
-use cb_net_node::{ForgedLink, Joined, LinkEnd};
+use cb_net_node::{ForgedLink, Joined, LinkEnd, NetLink, Side, Start};
 use cb_peer::Settings;
 
 impl Net {

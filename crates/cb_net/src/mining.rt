@@ -9,12 +9,9 @@ ghost use Rattle.cb_net.specs.Totals.{SettlesOnce};
 use crate::net::Net;
 use crate::world::World;
 use cb_base::{Fault, Shared};
-use cb_block::SoundBlock;
-use cb_net_link::Side;
-use cb_net_load::{LIES, Misdeed};
-use cb_net_node::{Arrivals, BlockResult};
+use cb_block::{SoundBlock, Tx};
+use cb_net_node::{Arrivals, BlockResult, LIES, Misdeed, Side};
 use cb_net_plan::Role;
-use cb_tx::Tx;
 
 impl Net {
     /// The next block: the faults before it, the transactions, and the block itself. `None` if all

@@ -1,11 +1,9 @@
 //! A network of nodes in virtual time.
 use crate::world::World;
-use cb_net_load::Wallet;
-use cb_net_node::Traffic;
+use cb_net_node::{Traffic, Wallet};
 use cb_net_plan::{Draws, NetSettings};
 
 /// A network of nodes that are linked, in virtual time. Everything in it follows from its settings.
-#[derive(Drop)]
 pub struct Net {
     pub(crate) settings: NetSettings,
     pub(crate) world: World,
@@ -23,4 +21,21 @@ pub struct Net {
     pub(crate) yes: u64,
     /// How many said no.
     pub(crate) no: u64,
+}
+
+impl Drop for Net {
+    fn drop(self) {
+        let Net {
+            settings: _,
+            world: _,
+            draws: _,
+            wallet: _,
+            relayed: _,
+            is_parted: _,
+            total: _,
+            left: _,
+            yes: _,
+            no: _,
+        } = self;
+    }
 }

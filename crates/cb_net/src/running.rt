@@ -9,9 +9,8 @@ use crate::audits::side_of;
 use crate::net::Net;
 use crate::world::World;
 use cb_base::{Fault, Hash256};
-use cb_net_link::{Side, wire_size};
-use cb_net_node::{Link, Node, Traffic};
-use cb_net_queue::{Act, Event};
+use cb_net_node::{Side, SimulatedLink, SimulatedNode, Traffic, wire_size};
+use cb_net_plan::{LinkAct, LinkEvent};
 use cb_wire::BoundedMessage;
 
 /// The place of the link of an end, by its number.
@@ -49,7 +48,7 @@ impl Net {
 impl World {
     /// An event happens, unless its connection has ended.
     #[tactic(auto, using(crate::proofs::Steps::steps))]
-    fn happen(&mut self, event: &Event) -> Result<(), Fault>
+    fn happen(&mut self, event: &LinkEvent) -> Result<(), Fault>
         // An event of a former connection does nothing.
         ensures former { ¬ IsPresentAt event.now self.old →
             (result ≡ Ok tt) × (self.new ≡ self.old) }
@@ -64,7 +63,7 @@ impl World {
 
     /// An event of a connection that hasn't ended happens.
     #[tactic(auto, using(crate::proofs::Steps::steps))]
-    fn happen_now(&mut self, event: &Event) -> Result<(), Fault>
+    fn happen_now(&mut self, event: &LinkEvent) -> Result<(), Fault>
         ensures relays { Relays self.old self.new }
         ensures faults { IfErr result IsNetFault }
     {
@@ -77,7 +76,7 @@ impl World {
     }
 
     /// Whether an event is of what its link is joined by now.
-    fn is_present(&self, event: &Event) -> bool
+    fn is_present(&self, event: &LinkEvent) -> bool
         ensures { IsTrue result ↔ IsPresentAt event.now self.now }
     {
         match self.links.as_slice().get(place_of(event.end)) {
@@ -96,7 +95,7 @@ impl World {
 
     /// A tick of a side of the link at a place, or the message that arrives there next.
     #[tactic(auto, using(crate::proofs::Steps::steps))]
-    fn act(&mut self, place: usize, side: Side, act: Act) -> Result<(), Fault>
+    fn act(&mut self, place: usize, side: Side, act: LinkAct) -> Result<(), Fault>
         ensures relays { Relays self.old self.new }
         ensures faults { IfErr result IsNetFault }
     {
@@ -113,8 +112,8 @@ impl World {
             return Ok(());
         };
         match act {
-            Act::Tick => joined.tick(side, node.hall.as_mut()),
-            Act::Arrival => joined.hear(self.alloc, side, node.hall.as_mut()),
+            LinkAct::Tick => joined.tick(side, node.hall.as_mut()),
+            LinkAct::Arrival => joined.hear(self.alloc, side, node.hall.as_mut()),
         }
     }
 
@@ -148,7 +147,7 @@ impl World {
         }
         let link = &mut self.links[place];
         let delay = gone.saturating_add(link.latency);
-        let event = link.event(to, Act::Arrival);
+        let event = link.event(to, LinkAct::Arrival);
         self.queue.put(delay, event)
     }
 
@@ -324,7 +323,7 @@ impl World {
         if !link.is_open() {
             return Ok(());
         }
-        let event = link.event(side, Act::Tick);
+        let event = link.event(side, LinkAct::Tick);
         self.queue.put(0, event)
     }
 
@@ -343,7 +342,12 @@ impl World {
 }
 
 /// The message at a place of those on their way to a side of a link.
-fn message_in(links: &[Link], place: usize, to: Side, turn: usize) -> Option<&BoundedMessage>
+fn message_in(
+    links: &[SimulatedLink],
+    place: usize,
+    to: Side,
+    turn: usize,
+) -> Option<&BoundedMessage>
     ensures { option_copied result ≡ message_on (slice_get links.now place) to turn }
 {
     let link = links.get(place)?;
@@ -352,14 +356,14 @@ fn message_in(links: &[Link], place: usize, to: Side, turn: usize) -> Option<&Bo
 
 /// The same of the link.
 #[tactic(auto, using(crate::proofs::Counted::found_on, crate::proofs::Counted::found_nothing))]
-fn message_of(link: &Link, to: Side, turn: usize) -> Option<&BoundedMessage>
+fn message_of(link: &SimulatedLink, to: Side, turn: usize) -> Option<&BoundedMessage>
     ensures { option_copied result ≡ message_on (Some link.now) to turn }
 {
     link.open()?.message(to, turn)
 }
 
 /// The number of the node at the far side of a link.
-fn sender_in(links: &[Link], place: usize, to: Side) -> Option<u32>
+fn sender_in(links: &[SimulatedLink], place: usize, to: Side) -> Option<u32>
     ensures { result ≡ sender_of (slice_get links.now place) to }
 {
     let link = links.get(place)?;
@@ -369,7 +373,12 @@ fn sender_in(links: &[Link], place: usize, to: Side) -> Option<u32>
 /// Counts a message that a node sends, and notes what it tells of how the node comes to a block,
 /// if the node is honest.
 #[tactic(auto, using(crate::proofs::Counted::by_honest, crate::proofs::Counted::by_other))]
-fn count_sent(node: &mut Node, message: &BoundedMessage, traffic: &mut Traffic, block: &Hash256)
+fn count_sent(
+    node: &mut SimulatedNode,
+    message: &BoundedMessage,
+    traffic: &mut Traffic,
+    block: &Hash256,
+)
     ensures counts { Counted (Some node.old) (Some message.now) traffic.old traffic.new }
     ensures alike { node.new ≡ record node.old { way = node.new.way } }
 {

@@ -7,7 +7,7 @@ ghost use Rattle.cb_net.specs.Moments.{Ages, Relays};
 use crate::net::Net;
 use crate::world::World;
 use cb_base::{Fault, Shared};
-use cb_tx::Tx;
+use cb_block::Tx;
 use std::alloc::Global;
 
 impl Net {

@@ -1,6 +1,11 @@
 pub mod Counting
 pub mod Cutting
-pub mod Forging
+pub mod ForgingLemmas
+pub mod Handing
+pub mod LinkResults
+pub mod Loosely
 pub mod MineFaults
 pub mod Passing
+pub mod Ranges
 pub mod Taking
+pub mod Talking

@@ -2,10 +2,10 @@
 use Rattle.std.proofs.Common.{◌≡◌, ℕ, ◌+◌, ◌<◌, ◌≤◌, List, [], ◌∷◌, ◌++◌, length, take, drop, get_or, Some, refl, sym, ap, subst, ◌∙◌, append_assoc, arith}
 use Rattle.std.proofs.lemmas.List.{append-nil, take-append-drop, take_more}
 use Rattle.std.proofs.Math.Seq.{take-length}
-use Rattle.cb_tx.specs.declared.tx.Tx.{Tx}
-use Rattle.cb_journal.specs.Journal.{JournalState}
-use Rattle.cb_journal.specs.declared.answer.Answer.{Answer}
-use Rattle.cb_journal.specs.declared.entry.Local.TheVariants as locals
+use Rattle.cb_block.specs.declared.tx.Tx.{Tx}
+use Rattle.cb_hall.specs.Journal.{JournalState}
+use Rattle.cb_hall.specs.declared.answer.Answer.{Answer}
+use Rattle.cb_hall.specs.declared.entry.Local.TheVariants as locals
 use Rattle.cb_hall.specs.Hall.{Submitted}
 use Rattle.cb_net_node.specs.Nodes.{TakesAll, TakesSome}
 

@@ -4,37 +4,37 @@ use Rattle.std.specs.List.{filter_map}
 use Rattle.std.specs.Option.{option_map}
 use Rattle.std.specs.Ordering.{nat_cmp}
 use Rattle.cb_net_node.specs.Nodes.{is_honest}
-use Rattle.cb_net_node.specs.declared.node.Node.{Node}
+use Rattle.cb_net_node.specs.declared.node.SimulatedNode.{SimulatedNode}
 use Rattle.cb_net_node.specs.declared.results.Arrivals.{Arrivals}
 use Rattle.cb_net_node.specs.declared.results.Ending.{Ending}
 
 -- it is honest and had the block
-abbrev pub had_it : Node → Bool
+abbrev pub had_it : SimulatedNode → Bool
 had_it node = is_honest node && is_some node.came
 
 -- it had the block, and asked for nothing
-abbrev pub had_at_once : Node → Bool
+abbrev pub had_at_once : SimulatedNode → Bool
 had_at_once node = had_it node && not (node.way.asked) && not (node.way.whole)
 
 -- it had the block, and asked for some of its transactions
-abbrev pub had_by_asking : Node → Bool
+abbrev pub had_by_asking : SimulatedNode → Bool
 had_by_asking node = had_it node && node.way.asked && not (node.way.whole)
 
 -- it had the block, and asked for all of it
-abbrev pub had_whole : Node → Bool
+abbrev pub had_whole : SimulatedNode → Bool
 had_whole node = had_it node && node.way.whole
 
 -- how long after a time it had the block, if it is honest and had it
-abbrev pub arrival : ℕ → Node → Option ℕ
+abbrev pub arrival : ℕ → SimulatedNode → Option ℕ
 arrival mined node =
     if is_honest node then option_map (λ came. came - mined) node.came else None
 
 -- and so each of the nodes
-abbrev pub times_of : ℕ → List Node → List ℕ
+abbrev pub times_of : ℕ → List SimulatedNode → List ℕ
 times_of mined nodes = filter_map (arrival mined) nodes
 
 -- Honest nodes alone are counted.
-pub record AreArrivals (mined : ℕ) (nodes : List Node) (arrivals : Arrivals) : Type 0 where
+pub record AreArrivals (mined : ℕ) (nodes : List SimulatedNode) (arrivals : Arrivals) : Type 0 where
   pub times : IsPermutation (times_of mined nodes) arrivals.times.items
   pub sorted : IsSorted nat_cmp arrivals.times.items
   pub honest : arrivals.honest ≡ count_by is_honest nodes

@@ -1,6 +1,6 @@
 -- What a session is told by the hall of its node.
 use Rattle.std.specs.Prelude.{List}
-use Rattle.cb_journal.specs.Journal.{JournalState}
+use Rattle.cb_hall.specs.Journal.{JournalState}
 use Rattle.cb_hall.specs.Badge.{BadgeState}
 use Rattle.cb_hall.specs.Histories.{Asks, Reply}
 

@@ -3,17 +3,17 @@ use Rattle.std.specs.Prelude.{◌≡◌, ◌⊎◌, ◌++◌, Bool, true, false,
 use Rattle.cb_block.specs.declared.block.Block.{Block}
 use Rattle.cb_wire.specs.Grammar.{IsWithinLimits}
 use Rattle.cb_wire.specs.declared.message.Message.{Message}
-use Rattle.cb_journal.specs.Journal.{JournalState}
+use Rattle.cb_hall.specs.Journal.{JournalState}
 use Rattle.cb_peer_state.specs.Session.{openings}
 use Rattle.cb_peer_state.specs.State.{is_closed}
 use Rattle.cb_peer_state.specs.declared.event.Event.TheVariants as events
-use Rattle.cb_net_link.specs.Ends.{Begins, Gives, Hears}
-use Rattle.cb_net_link.specs.LooseLink.{LooseView, is_loose_open}
-use Rattle.cb_net_link.specs.declared.end.Start.{Start}
-use Rattle.cb_net_link.specs.declared.side.Side.{Side}
-use Rattle.cb_net_link.specs.declared.side.Side.TheVariants.{First, Second}
-use Rattle.cb_net_load.specs.Lies.{Opens}
-use Rattle.cb_net_load.specs.declared.lies.Misdeed.{Misdeed}
+use Rattle.cb_net_node.specs.Ends.{Begins, Gives, Hears}
+use Rattle.cb_net_node.specs.LooseLink.{LooseView, is_loose_open}
+use Rattle.cb_net_node.specs.declared.end.Start.{Start}
+use Rattle.cb_net_node.specs.declared.side.Side.{Side}
+use Rattle.cb_net_node.specs.declared.side.Side.TheVariants.{First, Second}
+use Rattle.cb_net_node.specs.Lies.{Opens}
+use Rattle.cb_net_node.specs.declared.lies.Misdeed.{Misdeed}
 use Rattle.cb_net_node.specs.Asking.{asks}
 use Rattle.cb_net_node.specs.declared.forged_link.ForgedLink.{ForgedLink}
 

@@ -3,15 +3,15 @@ use Rattle.std.specs.Prelude.{◌≡◌, ◌⊎◌, Bool, true, false, if◌then
 use Rattle.std.specs.Option.{option_map}
 use Rattle.cb_block.specs.declared.block.Block.{Block}
 use Rattle.cb_wire.specs.declared.message.Message.{Message}
-use Rattle.cb_journal.specs.Journal.{JournalState}
+use Rattle.cb_hall.specs.Journal.{JournalState}
 use Rattle.cb_peer_state.specs.declared.event.Event.TheVariants as events
 use Rattle.cb_peer_state.specs.declared.state.State.{State}
 use Rattle.cb_audit.specs.Order.{AuditedTrace}
-use Rattle.cb_net_link.specs.Link.{AreClosed, GivesAt, HearsAt, LinkView, end_at, is_open_at}
-use Rattle.cb_net_link.specs.LooseLink.{LooseView}
-use Rattle.cb_net_link.specs.declared.end.End.{End}
-use Rattle.cb_net_link.specs.declared.side.Side.{Side}
-use Rattle.cb_net_load.specs.declared.lies.Misdeed.{Misdeed}
+use Rattle.cb_net_node.specs.Link.{AreClosed, GivesAt, HearsAt, LinkView, end_at, is_open_at}
+use Rattle.cb_net_node.specs.LooseLink.{LooseView}
+use Rattle.cb_net_node.specs.declared.end.End.{End}
+use Rattle.cb_net_node.specs.declared.side.Side.{Side}
+use Rattle.cb_net_node.specs.declared.lies.Misdeed.{Misdeed}
 use Rattle.cb_net_node.specs.Asking.{asks}
 use Rattle.cb_net_node.specs.Forged as forged
 use Rattle.cb_net_node.specs.Forged.{forged_way, is_same_side}

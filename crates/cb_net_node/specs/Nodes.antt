@@ -2,19 +2,19 @@
 use Rattle.std.specs.Prelude.{◌≡◌, ◌≢◌, ℕ, ℤ, pos, ◌^◌, ◌++◌, Bool, true, false, if◌then◌else◌, List, [], ◌∷◌, map, nat_lt, Option, None, Some, slice_get, slice_set, option_and_then, IsSomeAnd}
 use Rattle.std.specs.Option.{option_map}
 use Rattle.cb_base.specs.declared.hash.Hash256.{Hash256}
-use Rattle.cb_tx.specs.declared.tx.Tx.{Tx}
+use Rattle.cb_block.specs.declared.tx.Tx.{Tx}
 use Rattle.cb_block.specs.declared.block.Block.{Block}
 use Rattle.cb_state.specs.Mining.{IsMined}
-use Rattle.cb_journal.specs.Journal.{JournalState, new_journal}
-use Rattle.cb_journal.specs.declared.answer.Answer.{Answer}
-use Rattle.cb_journal.specs.declared.entry.Entry.TheVariants as entries
-use Rattle.cb_journal.specs.declared.entry.Local.TheVariants as locals
+use Rattle.cb_hall.specs.Journal.{JournalState, new_journal}
+use Rattle.cb_hall.specs.declared.answer.Answer.{Answer}
+use Rattle.cb_hall.specs.declared.entry.Entry.TheVariants as entries
+use Rattle.cb_hall.specs.declared.entry.Local.TheVariants as locals
 use Rattle.cb_hall.specs.Badge.{AreBadges, BadgeState, fresh_badge}
 use Rattle.cb_hall.specs.Hall.{Grows, Submitted, look_of, next_connection}
 use Rattle.cb_hall.specs.declared.summary.Look.{Look}
 use Rattle.cb_net_plan.specs.declared.roles.Role.{Role}
 use Rattle.cb_net_plan.specs.declared.roles.Role.TheVariants.{Honest, Lies, Stalls}
-use Rattle.cb_net_node.specs.declared.node.Node.{Node}
+use Rattle.cb_net_node.specs.declared.node.SimulatedNode.{SimulatedNode}
 use Rattle.cb_net_node.specs.declared.way.Way.{Way}
 
 -- ---- what it is like
@@ -25,7 +25,7 @@ is_honest_role Stalls = false
 is_honest_role Lies = false
 
 -- it does what the protocol says
-abbrev pub is_honest : Node → Bool
+abbrev pub is_honest : SimulatedNode → Bool
 is_honest node = is_honest_role node.role
 
 -- the tip of a hall
@@ -33,7 +33,7 @@ abbrev pub tip_of : JournalState → Hash256
 tip_of hall = (look_of hall.latest.relay).tip
 
 -- the summary of its hall, if it has one
-abbrev pub look_at : Node → Option Look
+abbrev pub look_at : SimulatedNode → Option Look
 look_at node = option_map (λ hall. look_of hall.latest.relay) node.hall
 
 -- the height of a tip as `version` tells it: 0 if there is none, or if it has no 31 bits
@@ -46,7 +46,7 @@ abbrev pub at_once : Way
 at_once = record { asked = false; whole = false }
 
 -- A node that has no links, and no hall yet.
-pub record IsNew (role : Role) (node : Node) : Type 0 where
+pub record IsNew (role : Role) (node : SimulatedNode) : Type 0 where
   pub role_is : node.role ≡ role
   pub hall : node.hall ≡ None
   pub ends : node.ends.items ≡ []
@@ -58,7 +58,7 @@ pub record IsNew (role : Role) (node : Node) : Type 0 where
 -- ---- what changes
 
 -- It has a hall in which nothing happened, with a first connection for each peer.
-pub record HasBegun (peers : ℕ) (old new : Node) : Type 0 where
+pub record HasBegun (peers : ℕ) (old new : SimulatedNode) : Type 0 where
   pub hall : new.hall ≡ Some new_journal
   pub tip : new.tip ≡ tip_of new_journal
   pub first : List BadgeState
@@ -67,16 +67,16 @@ pub record HasBegun (peers : ℕ) (old new : Node) : Type 0 where
   pub others : new ≡ record old { hall = new.hall; tip = new.tip; badges = new.badges }
 
 -- the badge of a peer's first connection, if that wasn't used yet
-abbrev pub unused : Node → ℕ → Option BadgeState
+abbrev pub unused : SimulatedNode → ℕ → Option BadgeState
 unused node peer = option_and_then (λ badge. badge) (slice_get node.badges.items peer)
 
 -- It is used now.
-pub record Uses (peer : ℕ) (old new : Node) : Type 0 where
+pub record Uses (peer : ℕ) (old new : SimulatedNode) : Type 0 where
   pub badges : new.badges.items ≡ slice_set old.badges.items peer None
   pub others : new ≡ record old { badges = new.badges }
 
 -- The hall opened the peer's next connection.
-pub record OpensNext (peer : ℕ) (badge : BadgeState) (old new : Node) : Type 0 where
+pub record OpensNext (peer : ℕ) (badge : BadgeState) (old new : SimulatedNode) : Type 0 where
   pub was : JournalState
   pub had : old.hall ≡ Some was
   pub badge_is : badge ≡ fresh_badge (next_connection was peer)
@@ -105,7 +105,7 @@ pub record TakesSome (txs : List Tx) (old new : Option JournalState) : Type 0 wh
   pub takes : TakesTxs taken old new
 
 -- It mined a block on its tip, and took it.
-pub record Mines (mark : ℕ) (block : Block) (old new : Node) : Type 0 where
+pub record Mines (mark : ℕ) (block : Block) (old new : SimulatedNode) : Type 0 where
   pub was : JournalState
   pub had : old.hall ≡ Some was
   pub mined : IsMined was.latest.relay mark block
@@ -117,7 +117,7 @@ pub record Mines (mark : ℕ) (block : Block) (old new : Node) : Type 0 where
 
 -- Its hall has another tip than its sessions were told of. `came` is the time at which the block
 -- that is being relayed became its tip, and is set once.
-pub record NotesTip (now : ℕ) (block : Hash256) (old new : Node) : Type 0 where
+pub record NotesTip (now : ℕ) (block : Hash256) (old new : SimulatedNode) : Type 0 where
   pub tip : IsSomeAnd old.hall (λ hall. new.tip ≡ tip_of hall)
   pub differs : new.tip ≢ old.tip
   pub comes : new.tip ≡ block → old.came ≡ None → new.came ≡ Some now

@@ -1,7 +1,7 @@
 -- What a node asks for when it comes to a block.
 use Rattle.std.specs.Prelude.{◌≡◌, Any}
 use Rattle.cb_base.specs.declared.hash.Hash256.{Hash256}
-use Rattle.cb_payload.specs.declared.inventory.Inventory.TheVariants as inventory
+use Rattle.cb_wire.specs.declared.inventory.Inventory.TheVariants as inventory
 use Rattle.cb_wire.specs.declared.message.Message.{Message}
 use Rattle.cb_wire.specs.declared.message.Message.TheVariants.{GetBlockTxn, GetData}
 

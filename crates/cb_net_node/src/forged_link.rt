@@ -2,19 +2,22 @@
 ghost use Rattle.std.specs.Prelude.{◌≡◌, ◌⊎◌, true, false, None, Some, IfOk, IsOkUnless, OnErr, OnOk};
 ghost use Rattle.cb_base.specs.declared.fault.Fault.TheVariants.{Memory};
 ghost use Rattle.cb_peer_state.specs.declared.event.Event.TheVariants.{Tick};
-ghost use Rattle.cb_net_link.specs.Ends.{Fails, Misses, WasClosed, with_hall};
-ghost use Rattle.cb_net_link.specs.LooseLink.{IsLooseLink};
+ghost use Rattle.cb_net_node.specs.Ends.{Fails, Misses, WasClosed, with_hall};
+ghost use Rattle.cb_net_node.specs.LooseLink.{IsLooseLink};
 ghost use Rattle.cb_net_node.specs.Asking.{asks};
 ghost use Rattle.cb_net_node.specs.Forged.{AnswersByHand, HearsNone, HearsOne, IsForged, IsOver, Misbehaves, Puts, SaysOne, Ticks, forged_way, is_same_side};
 
+use crate::end::Start;
+use crate::lies::{Misdeed, answer, opening};
+use crate::loose_link::LooseLink;
+use crate::side::Side;
+use crate::transit::Transit;
 use cb_base::Fault;
 use cb_block::SoundBlock;
 use cb_hall::Hall;
-use cb_net_link::{LooseLink, Side, Start, Transit};
-use cb_net_load::{Misdeed, answer, opening};
 use cb_peer::State;
+use cb_peer_state::{Outgoing, our_version, wishes};
 use cb_state::Connection;
-use cb_talk::{Outgoing, our_version, wishes};
 use cb_trace::Trace;
 use cb_wire::{BoundedMessage, Message};
 use std::alloc::Global;
@@ -23,7 +26,6 @@ use std::alloc::Global;
 const PROTOCOL_VERSION: i32 = 70_014;
 
 /// A link whose honest node has a session, and whose other node makes its messages by hand.
-#[derive(Drop)]
 pub struct ForgedLink {
     honest: Side,
     link: LooseLink,
@@ -31,6 +33,17 @@ pub struct ForgedLink {
     nonce: u64,
     /// What the other node does, and about which block.
     about: Option<(Misdeed, SoundBlock)>,
+}
+
+impl Drop for ForgedLink {
+    fn drop(self) {
+        let ForgedLink {
+            honest: _,
+            link: _,
+            nonce: _,
+            about: _,
+        } = self;
+    }
 }
 
 impl ForgedLink {

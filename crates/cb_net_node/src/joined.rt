@@ -2,27 +2,35 @@
 ghost use Rattle.std.specs.Prelude.{◌≡◌, ◌⊎◌, ◌↔◌, ◌<◌, true, false, length, None, Ok, IfSome, IsOkUnless, IsSome, OnOk};
 ghost use Rattle.std.specs.List.{slice_index_or};
 ghost use Rattle.cb_base.specs.declared.fault.Fault.TheVariants.{Memory};
-ghost use Rattle.cb_journal.specs.Journal.{JournalState};
+ghost use Rattle.cb_hall.specs.Journal.{JournalState};
 ghost use Rattle.cb_net_node.specs.Joined.{AnswersByHand, Hears, HearsNoneAt, HearsOneAt, Misbehaves, Over, Ticks, TicksAt, audited_at, has_session, on_its_way, state_at};
 
 use crate::forged_link::ForgedLink;
+use crate::lies::Misdeed;
+use crate::net_link::NetLink;
+use crate::side::Side;
 use cb_audit::Audited;
 use cb_base::Fault;
 use cb_block::SoundBlock;
 use cb_hall::Hall;
-use cb_net_link::{NetLink, Side};
-use cb_net_load::Misdeed;
 use cb_peer::State;
 use cb_wire::BoundedMessage;
 use std::alloc::Global;
 
 /// What two nodes are joined by.
-#[derive(Drop)]
 pub enum Joined {
     /// Two sessions: both nodes are honest.
     Honest(NetLink),
     /// One session, and messages made by hand: one node stalls or lies.
     Forged(ForgedLink),
+}
+
+impl Drop for Joined {
+    fn drop(self) {
+        match self {
+            Joined::Honest(_) | Joined::Forged(_) => (),
+        }
+    }
 }
 
 impl Joined {

@@ -7,9 +7,9 @@ ghost use Rattle.cb_net_node.specs.Lending.{LendsJoined};
 ghost use Rattle.cb_net_node.specs.Links.{IsCut, IsCutAlone, IsForgotten, IsJoined, IsPresent, all_joined, counted, counted_at, end_of, next_event, number_of, one_more, present};
 
 use crate::joined::Joined;
+use crate::side::Side;
 use cb_base::Fault;
-use cb_net_link::Side;
-use cb_net_queue::{Act, Event};
+use cb_net_plan::{LinkAct, LinkEvent};
 
 /// One end of a link.
 #[derive(Clone, Copy, Drop)]
@@ -48,8 +48,7 @@ impl LinkEnd {
 }
 
 /// A link between two nodes. It is joined, cut and joined again.
-#[derive(Drop)]
-pub struct Link {
+pub struct SimulatedLink {
     /// The number of its first end. That of the second one is higher by one.
     number: u32,
     first: LinkEnd,
@@ -66,7 +65,22 @@ pub struct Link {
     pub past: Vec<Joined>,
 }
 
-impl Link {
+impl Drop for SimulatedLink {
+    fn drop(self) {
+        let SimulatedLink {
+            number: _,
+            first: _,
+            second: _,
+            latency: _,
+            generation: _,
+            is_open: _,
+            joined: _,
+            past: _,
+        } = self;
+    }
+}
+
+impl SimulatedLink {
     /// A link that was never joined.
     pub fn new(
         number: u32,
@@ -74,7 +88,7 @@ impl Link {
         second: LinkEnd,
         latency: u64,
         past: Vec<Joined>,
-    ) -> Link
+    ) -> SimulatedLink
         ensures { result ≡ record {
           number = number;
           first = first;
@@ -86,7 +100,7 @@ impl Link {
           past = past;
         } }
     {
-        Link {
+        SimulatedLink {
             number,
             first,
             second,
@@ -146,7 +160,7 @@ impl Link {
     }
 
     /// Whether an event is of what it is joined by now.
-    pub fn is_present(&self, event: &Event) -> bool
+    pub fn is_present(&self, event: &LinkEvent) -> bool
         ensures { IsTrue result ↔ IsPresent event.now self.now }
     {
         self.is_open && event.generation == self.generation
@@ -163,7 +177,7 @@ impl Link {
     }
 
     /// The next event of a side. The numbers of a side's events count from 1.
-    pub fn event(&mut self, side: Side, act: Act) -> Event
+    pub fn event(&mut self, side: Side, act: LinkAct) -> LinkEvent
         ensures event { result ≡ next_event side act self.old }
         ensures counted { self.new ≡ counted_at side self.old }
     {
@@ -172,7 +186,7 @@ impl Link {
             Side::First => self.first.count(),
             Side::Second => self.second.count(),
         };
-        Event {
+        LinkEvent {
             end,
             number,
             generation: self.generation,

@@ -8,19 +8,16 @@ ghost use Rattle.cb_net_node.specs.Sending.{left_at, time_of};
 
 use crate::way::Way;
 use cb_base::{Fault, Hash256, Seed, Shared};
-use cb_block::SoundBlock;
-use cb_hall::{Badge, Hall, Look};
-use cb_journal::Local;
+use cb_block::{SoundBlock, Tx};
+use cb_hall::{Badge, Hall, Local, Look};
 use cb_net_plan::Role;
-use cb_tx::Tx;
 use std::alloc::Global;
 
 /// The most peers of a hall.
 const MOST_PEERS: usize = 1_024;
 
 /// A node: its hall, its ends of links, and when its line is free.
-#[derive(Drop)]
-pub struct Node {
+pub struct SimulatedNode {
     /// What it is like.
     pub role: Role,
     /// What all its sessions share. A node that stalls or lies has none.
@@ -39,12 +36,27 @@ pub struct Node {
     pub way: Way,
 }
 
-impl Node {
+impl Drop for SimulatedNode {
+    fn drop(self) {
+        let SimulatedNode {
+            role: _,
+            hall: _,
+            ends: _,
+            badges: _,
+            free_at: _,
+            tip: _,
+            came: _,
+            way: _,
+        } = self;
+    }
+}
+
+impl SimulatedNode {
     /// A node of this role that has no links, and no hall yet.
-    pub fn new(alloc: Global, role: Role) -> Node
+    pub fn new(alloc: Global, role: Role) -> SimulatedNode
         ensures { IsNew role result }
     {
-        Node {
+        SimulatedNode {
             role,
             hall: None,
             ends: Vec::new(alloc),

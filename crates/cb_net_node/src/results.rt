@@ -5,7 +5,7 @@ ghost use Rattle.std.specs.Ordering.{nat_cmp};
 ghost use Rattle.cb_net_node.specs.Arrivals.{AreArrivals, IsWell, arrival, had_at_once, had_by_asking, had_it, had_whole, part_of, time_by, times_of};
 ghost use Rattle.cb_net_node.specs.Nodes.{is_honest};
 
-use crate::node::Node;
+use crate::node::SimulatedNode;
 use crate::traffic::Traffic;
 use crate::way::Way;
 use cb_audit::Split;
@@ -91,7 +91,7 @@ pub struct Arrivals {
 
 impl Arrivals {
     /// The arrivals of a block that was mined at this time. Fails only with `Fault::Memory`.
-    pub fn of(alloc: Global, nodes: &[Node], mined: u64) -> Result<Arrivals, Fault>
+    pub fn of(alloc: Global, nodes: &[SimulatedNode], mined: u64) -> Result<Arrivals, Fault>
         ensures exact { IfOk result (λ arrivals. AreArrivals mined nodes.now arrivals) }
         // Each of those that had it came to it in one way.
         ensures ways { IfOk result (λ arrivals.
@@ -126,7 +126,7 @@ impl Arrivals {
 }
 
 /// How long after a time the honest nodes had the block, in order. Fails only with `Fault::Memory`.
-fn times_of(alloc: Global, nodes: &[Node], mined: u64) -> Result<Vec<u64>, Fault>
+fn times_of(alloc: Global, nodes: &[SimulatedNode], mined: u64) -> Result<Vec<u64>, Fault>
     ensures times { IfOk result (λ times. IsPermutation (times_of mined nodes.now) times.items) }
     ensures sorted { IfOk result (λ times. IsSorted nat_cmp times.items) }
     ensures memory { IsOkUnless result Memory }
@@ -137,7 +137,7 @@ fn times_of(alloc: Global, nodes: &[Node], mined: u64) -> Result<Vec<u64>, Fault
 }
 
 /// The same, in the order of the nodes.
-fn unsorted_times(alloc: Global, nodes: &[Node], mined: u64) -> Result<Vec<u64>, Fault>
+fn unsorted_times(alloc: Global, nodes: &[SimulatedNode], mined: u64) -> Result<Vec<u64>, Fault>
     ensures times { IfOk result (λ times. times.items ≡ times_of mined nodes.now) }
     ensures memory { IsOkUnless result Memory }
 {
@@ -151,7 +151,7 @@ fn unsorted_times(alloc: Global, nodes: &[Node], mined: u64) -> Result<Vec<u64>,
 }
 
 /// How long after a time the node had the block, if it is honest and had it.
-fn arrival(node: &Node, mined: u64) -> Option<u64>
+fn arrival(node: &SimulatedNode, mined: u64) -> Option<u64>
     ensures { result ≡ arrival mined node.now }
 {
     if !node.is_honest() {
@@ -164,7 +164,7 @@ fn arrival(node: &Node, mined: u64) -> Option<u64>
 }
 
 /// How many of them are honest.
-fn count_honest(nodes: &[Node]) -> u64
+fn count_honest(nodes: &[SimulatedNode]) -> u64
     ensures { result ≡ count_by is_honest nodes.now }
 {
     let mut count = 0usize;
@@ -177,7 +177,7 @@ fn count_honest(nodes: &[Node]) -> u64
 }
 
 /// How many honest ones had the block, and asked for nothing.
-fn count_at_once(nodes: &[Node]) -> u64
+fn count_at_once(nodes: &[SimulatedNode]) -> u64
     ensures { result ≡ count_by had_at_once nodes.now }
 {
     let mut count = 0usize;
@@ -190,7 +190,7 @@ fn count_at_once(nodes: &[Node]) -> u64
 }
 
 /// How many honest ones had the block, and asked for some of its transactions.
-fn count_by_asking(nodes: &[Node]) -> u64
+fn count_by_asking(nodes: &[SimulatedNode]) -> u64
     ensures { result ≡ count_by had_by_asking nodes.now }
 {
     let mut count = 0usize;
@@ -203,7 +203,7 @@ fn count_by_asking(nodes: &[Node]) -> u64
 }
 
 /// How many honest ones had the block, and asked for all of it.
-fn count_whole(nodes: &[Node]) -> u64
+fn count_whole(nodes: &[SimulatedNode]) -> u64
     ensures { result ≡ count_by had_whole nodes.now }
 {
     let mut count = 0usize;
@@ -216,7 +216,7 @@ fn count_whole(nodes: &[Node]) -> u64
 }
 
 /// Whether it is honest and had the block.
-fn had_it(node: &Node) -> bool
+fn had_it(node: &SimulatedNode) -> bool
     ensures { result ≡ had_it node.now }
 {
     node.is_honest() && node.came.is_some()

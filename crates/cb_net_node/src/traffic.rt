@@ -4,7 +4,7 @@ ghost use Rattle.cb_wire.specs.Grammar.{payload_text};
 ghost use Rattle.cb_net_node.specs.Commands.{row_of};
 ghost use Rattle.cb_net_node.specs.Traffics.{AddsRows, Counts, nothing, rows_of, sum_of, with_more};
 
-use cb_net_link::wire_size;
+use crate::transit::wire_size;
 use cb_wire::{BoundedMessage, Message};
 
 /// How many commands there are: those that are known, and all others as one.

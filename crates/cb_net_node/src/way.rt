@@ -1,6 +1,6 @@
 //! How a node came to a block.
 ghost use Rattle.std.specs.Prelude.{◌≡◌, ◌⊎◌, ◌↔◌, Any, IsTrue};
-ghost use Rattle.cb_payload.specs.declared.inventory.Inventory.TheVariants as inventory;
+ghost use Rattle.cb_wire.specs.declared.inventory.Inventory.TheVariants as inventory;
 ghost use Rattle.cb_net_node.specs.Ways.{AsksForBlock, AsksForTxs};
 
 use cb_base::Hash256;

@@ -1,6 +1,9 @@
+pub mod Derived
 pub mod Drawing
 pub mod Graph
+pub mod Ordered
 pub mod Outlines
 pub mod Planning
 pub mod Published
+pub mod Reading
 pub mod Rolling

@@ -1,5 +1,8 @@
+pub mod Agenda
 pub mod Draws
 pub mod Links
+pub mod NetLine
+pub mod NetWords
 pub mod Planning
 pub mod Roles
 pub mod Settings

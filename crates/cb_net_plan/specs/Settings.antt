@@ -2,7 +2,7 @@
 use Rattle.std.specs.Prelude.{ℕ, ◌+◌, ◌<◌, ◌≤◌, Bool, true, false, ◌&&◌, List, [], ◌∷◌, Option, Some, None, Result, Ok, Err, codes, not, nat_le, nat_lt}
 use Rattle.std.specs.List.{find}
 use Rattle.cb_net_plan.specs.declared.settings.NetSettings.{NetSettings}
-use Rattle.cb_net_plan.specs.declared.settings.Part.{Part}
+use Rattle.cb_net_plan.specs.declared.settings.Partition.{Partition}
 use Rattle.cb_net_plan.specs.declared.settings.Restart.{Restart}
 use Rattle.cb_net_plan.specs.declared.settings.SettingsFault.{SettingsFault}
 use Rattle.cb_net_plan.specs.declared.settings.SettingsFault.TheVariants.{Nodes, Links, Latency, Rate, Blocks, Transactions, Missing, Lacking, Part as PartFault, Restart as RestartFault, Honest}
@@ -33,7 +33,7 @@ abbrev pub lies_in : ℕ → ℕ → ℕ → Bool
 lies_in low high number = nat_le low number && nat_le number high
 
 -- some of the nodes, but not all, are cut off, for blocks that there are
-abbrev pub is_part : NetSettings → Option Part → Bool
+abbrev pub is_part : NetSettings → Option Partition → Bool
 is_part settings None = true
 is_part settings (Some part) =
     nat_lt 0 part.below && nat_lt part.below settings.nodes

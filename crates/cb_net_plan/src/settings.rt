@@ -18,7 +18,7 @@ const MOST_TRANSACTIONS: u32 = 4_000;
 
 /// Nodes that are cut off from the others for some blocks.
 #[derive(Clone, Copy)]
-pub struct Part {
+pub struct Partition {
     /// The nodes with lower numbers are cut off from the others.
     pub below: u32,
     /// The block before which they are cut off, from 1 on.
@@ -61,7 +61,7 @@ pub struct NetSettings {
     /// What percentage of the nodes lacks them.
     pub lacking: u32,
     /// Which nodes are cut off from the others, and when.
-    pub part: Option<Part>,
+    pub part: Option<Partition>,
     /// Which node begins anew, and when.
     pub restart: Option<Restart>,
     /// How many nodes never answer.

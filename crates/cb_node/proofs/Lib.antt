@@ -1,2 +1,7 @@
+pub mod Finished
+pub mod Linking
+mod Lowest
+mod Placing
+mod Seatings
 mod Slots
 pub mod Times

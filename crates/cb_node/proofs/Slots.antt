@@ -6,7 +6,7 @@ use Rattle.std.specs.List.{range_with_len}
 use Rattle.std.proofs.lemmas.List.FromFn.{length-range_with_len}
 use Rattle.std.proofs.lemmas.List.Elements.{All-cons, All-get_or, All-nil}
 use Rattle.std.specs.declared.thread.PromisedHandle.{PromisedHandle}
-use Rattle.cb_inbox.specs.Seat.{InboxState}
+use Rattle.cb_crew.specs.Seat.{InboxState}
 use Rattle.cb_hall.specs.Badge.{AreBadges, BadgeState, first_of, fresh_badge}
 use Rattle.cb_work.specs.PeerWork.{label_of}
 use Rattle.cb_crew.specs.declared.reader_side.ReaderSide.{ReaderSide}
@@ -15,10 +15,10 @@ use Rattle.cb_crew.specs.Turn.{HandlerState}
 use Rattle.cb_crew.specs.Crew.{AreHandlersOf, AreSidesOf, CrewState, HasPlace, inbox_of}
 use Rattle.cb_service.specs.declared.promises.OfCrew.{OfCrew}
 use Rattle.cb_service.specs.Service.{HandBack}
-use Rattle.cb_slots.specs.declared.fault.NodeFault.{NodeFault}
-use Rattle.cb_slots.specs.declared.fault.NodeFault.TheVariants.{NoSlot}
-use Rattle.cb_slots.specs.Choosing.{HasNone, IsChosen, IsLowest}
-use Rattle.cb_slots.specs.Slot.{AreAlike, AreAlikeBut, AreSlotsOf, AreThreadsOf, IsInboxOf, IsNew, SlotState, WaitsAt, attached, inboxes_of, names_in, new_slot, uses_of}
+use Rattle.cb_node.specs.declared.fault.NodeFault.{NodeFault}
+use Rattle.cb_node.specs.declared.fault.NodeFault.TheVariants.{NoSlot}
+use Rattle.cb_node.specs.Choosing.{HasNone, IsChosen, IsLowest}
+use Rattle.cb_node.specs.Slot.{AreAlike, AreAlikeBut, AreSlotsOf, AreThreadsOf, IsInboxOf, IsNew, SlotState, WaitsAt, attached, inboxes_of, names_in, new_slot, uses_of}
 use Rattle.cb_node.specs.declared.settings.NodeSettings.{NodeSettings}
 use Rattle.cb_node.specs.Node.{IsServed, NodeState, end_of, first_labels, first_of as first_slot, node_state, with_used}
 

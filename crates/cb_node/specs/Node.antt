@@ -6,15 +6,15 @@ use Rattle.std.specs.Net.Socket.{socket_port}
 use Rattle.cb_crew.specs.declared.reader_side.ReaderSide.{ReaderSide}
 use Rattle.cb_crew.specs.Desk.{DeskState}
 use Rattle.cb_crew.specs.Crew.{AreSidesOf, CrewState}
-use Rattle.cb_reader.specs.declared.input.Input.{Input}
+use Rattle.cb_session.specs.declared.input.Input.{Input}
 use Rattle.cb_work.specs.PeerWork.{WorkState, label_of}
 use Rattle.cb_peers.specs.Headline.{IsHeadline}
 use Rattle.cb_peers.specs.Reading.{QueuedWhatItRead}
 use Rattle.cb_peer_state.specs.declared.settings.Settings.{Settings}
-use Rattle.cb_slots.specs.declared.fault.NodeFault.{NodeFault}
-use Rattle.cb_slots.specs.declared.fault.NodeFault.TheVariants.{NoSlot}
-use Rattle.cb_slots.specs.Choosing.{HasNone, IsChosen}
-use Rattle.cb_slots.specs.Slot.{SlotState, uses_of}
+use Rattle.cb_node.specs.declared.fault.NodeFault.{NodeFault}
+use Rattle.cb_node.specs.declared.fault.NodeFault.TheVariants.{NoSlot}
+use Rattle.cb_node.specs.Choosing.{HasNone, IsChosen}
+use Rattle.cb_node.specs.Slot.{SlotState, uses_of}
 use Rattle.cb_node.specs.declared.settings.NodeSettings.{NodeSettings}
 
 -- A node: its crew, the settings with which it makes what it serves next, where it listens, and

@@ -3,16 +3,14 @@
 ghost use Rattle.std.specs.Prelude.{◌≡◌, IfErr, IfOk, IsOkUnless};
 ghost use Rattle.cb_base.specs.declared.fault.Fault.TheVariants as faults;
 ghost use Rattle.cb_pool.specs.Listing.{since_of};
-ghost use Rattle.cb_slots.specs.declared.fault.NodeFault.TheVariants.{Memory};
+ghost use Rattle.cb_node.specs.declared.fault.NodeFault.TheVariants.{Memory};
 
+use crate::fault::NodeFault;
 use crate::node::Node;
 use cb_base::{Fault, Hash256};
-use cb_hall::Hall;
-use cb_journal::{Answer, Local};
+use cb_hall::{Answer, Hall, Local};
 use cb_pool::Pool;
-use cb_reading::{BlockLook, block_look};
-use cb_slots::NodeFault;
-use cb_state::Relay;
+use cb_state::{BlockLook, Relay, block_look};
 use std::marker::{Copy, Send};
 use std::sync::Wait;
 use std::thread::Threads;

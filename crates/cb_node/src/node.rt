@@ -1,21 +1,23 @@
 ghost use Rattle.std.specs.Prelude.{◌≡◌, ◌≢◌, ◌⊎◌, ◌↔◌, ◌<◌, ◌≤◌, length, IfErr, Err};
 ghost use Rattle.cb_base.specs.declared.fault.Fault.TheVariants as faults;
-ghost use Rattle.cb_journal.specs.Connections.{most_peers};
-ghost use Rattle.cb_slots.specs.declared.fault.NodeFault.TheVariants.{Memory, NoSlot};
-ghost use Rattle.cb_slots.specs.declared.fault.NodeFault.TheVariants as told;
+ghost use Rattle.cb_hall.specs.Connections.{most_peers};
+ghost use Rattle.cb_node.specs.declared.fault.NodeFault.TheVariants.{Memory, NoSlot};
+ghost use Rattle.cb_node.specs.declared.fault.NodeFault.TheVariants as told;
 ghost use Rattle.cb_node.specs.Node.{HasFinished, with_time};
 
+use crate::crewing::sides_of;
+use crate::fault::NodeFault;
+use crate::listening::Listening;
 use crate::opening::NodeWork;
 use crate::serving::Service;
+use crate::slot::{Common, Slot};
 use cb_base::{Hash256, Shared};
 use cb_block::SoundBlock;
 use cb_crew::{Desk, Fresh, Handler, ReaderSide};
-use cb_hall::{Hall, Look};
-use cb_journal::{Answer, Local};
+use cb_hall::{Answer, Hall, Local, Look};
 use cb_peers::{NodeBytes, TICKS_A_HANDLER, finish_peers};
-use cb_reader::Input;
-use cb_service::{Handling, join_handlers};
-use cb_slots::{Common, Listening, NodeFault, Slot, sides_of};
+use cb_service::{HandlerThread, join_handlers};
+use cb_session::Input;
 use cb_work::{Seen, submit_and_see, tip_word};
 use std::marker::{Copy, Model, Send};
 use std::sync::{Mutex, Wait};
@@ -42,7 +44,6 @@ pub struct NodeEnd<R: Wait + Drop> {
 ///
 /// A write to a peer fails if its outbox is full, or if its socket took nothing for too long
 /// (docs/DESIGN.md). It ends the connection.
-#[derive(Drop)]
 pub struct Node<R: Wait + Drop> {
     pub(crate) service: Service<R>,
     /// What the slots share.
@@ -50,7 +51,7 @@ pub struct Node<R: Wait + Drop> {
     pub(crate) listening: Option<Listening>,
     pub(crate) slots: Vec<Slot<NodeWork<R>>>,
     /// The handlers' threads.
-    pub(crate) handling: Vec<Handling<NodeWork<R>>>,
+    pub(crate) handling: Vec<HandlerThread<NodeWork<R>>>,
     /// An empty list with room for all handlers.
     pub(crate) handlers: Vec<Handler<NodeWork<R>>>,
     /// An empty list with room for the sides of all slots.
@@ -59,8 +60,8 @@ pub struct Node<R: Wait + Drop> {
 
 impl<R: Wait + Drop> Model for Node<R> {
     ghost use Rattle.std.specs.Prelude.{◌≡◌, ◌≤◌, [], length, vec_capacity};
-    ghost use Rattle.cb_journal.specs.Connections.{most_peers};
-    ghost use Rattle.cb_slots.specs.Slot.{AreSlotsOf, AreThreadsOf};
+    ghost use Rattle.cb_hall.specs.Connections.{most_peers};
+    ghost use Rattle.cb_node.specs.Slot.{AreSlotsOf, AreThreadsOf};
     ghost use Rattle.cb_node.specs.Node.{NodeState, node_state};
 
     ghost Value = { NodeState };
@@ -74,6 +75,20 @@ impl<R: Wait + Drop> Model for Node<R> {
         × AreThreadsOf node.common.crew node.handling.items × (node.handlers.items ≡ [])
         × (length node.handling.items ≤ vec_capacity node.handlers) × (node.sides.items ≡ [])
         × (length node.slots.items ≤ vec_capacity node.sides) };
+}
+
+impl<R: Wait + Drop> Drop for Node<R> {
+    fn drop(self) {
+        let Node {
+            service: _,
+            common: _,
+            listening: _,
+            slots: _,
+            handling: _,
+            handlers: _,
+            sides: _,
+        } = self;
+    }
 }
 
 impl<R: Threads + Wait + Copy + Send + Drop + 'static> Node<R> {
@@ -215,7 +230,7 @@ impl<R: Threads + Wait + Copy + Send + Drop + 'static> Node<R> {
         let desks = finish_peers(rt, &common.crew, sides, handlers);
         service.links.close_all(rt);
         NodeEnd {
-            hall: service.hall,
+            hall: service.into_hall(),
             desks,
             read,
         }

@@ -2,17 +2,17 @@
 ghost use Rattle.std.specs.Prelude.{◌≡◌, [], None, length, map, All, IfErr, IfOk};
 ghost use Rattle.cb_work.specs.Flags.{HasLooked};
 ghost use Rattle.cb_work.specs.PeerWork.{label_of};
-ghost use Rattle.cb_slots.specs.Linking.{IsLinkOf, link_label};
-ghost use Rattle.cb_slots.specs.Slot.{IsNew};
+ghost use Rattle.cb_node.specs.Linking.{IsLinkOf, link_label};
+ghost use Rattle.cb_node.specs.Slot.{IsNew};
 ghost use Rattle.cb_node.specs.Node.{session_settings};
 
+use crate::next_connection::NextConnection;
 use crate::serving::Service;
 use crate::settings::session_settings;
 use cb_base::{Fault, Shared};
 use cb_crew::Fresh;
 use cb_hall::Badge;
 use cb_peers::{Link, OutboxSink};
-use cb_slots::NextConnection;
 use cb_state::Connection;
 use cb_work::{NotStarted, Outlet, PeerFlags, PeerWork, SharedHall};
 use std::marker::Copy;
@@ -23,7 +23,7 @@ pub type NodeWork<R> = PeerWork<OutboxSink<R>, SharedHall<R>, PeerFlags>;
 
 /// What a session writes to, asks, and tells, and what it shares with the node.
 #[derive(Drop)]
-struct Ends<R: Wait + Drop> {
+struct SessionEnds<R: Wait + Drop> {
     outlet: Outlet<OutboxSink<R>>,
     hall: SharedHall<R>,
     flags: PeerFlags,
@@ -70,7 +70,7 @@ impl<R: Wait + Copy + Drop> Service<R> {
             Ok(ends) => ends,
             Err(fault) => return Err((badge, fault)),
         };
-        let Ends {
+        let SessionEnds {
             outlet,
             hall,
             flags,
@@ -92,7 +92,7 @@ impl<R: Wait + Copy + Drop> Service<R> {
     }
 
     /// The ends of this connection's session. Fails only with `Fault::Memory`.
-    fn ends(&self, connection: Connection) -> Result<Ends<R>, Fault>
+    fn ends(&self, connection: Connection) -> Result<SessionEnds<R>, Fault>
         ensures slot { IfOk result (λ ends. ends.outlet.slot ≡ connection.peer) }
         ensures sink { IfOk result (λ ends. (ends.outlet.sink.failure ≡ None)
             × IsLinkOf connection ends.outlet.sink.link) }
@@ -105,7 +105,7 @@ impl<R: Wait + Copy + Drop> Service<R> {
         let (one, status) = (link.clone()?, link.status.clone()?);
         let hall = SharedHall::new(self.rt, self.hall.clone()?, status.clone()?);
         self.links.add(&self.rt, peer, link.clone()?)?;
-        Ok(Ends {
+        Ok(SessionEnds {
             outlet: Outlet::new(peer, OutboxSink::new(self.rt, one)),
             hall,
             flags: PeerFlags::new(status),

@@ -1,14 +1,19 @@
 //! Where a node listens, and how its peers come to be served.
 ghost use Rattle.std.specs.Prelude.{◌≡◌, ◌⊎◌, ◌↔◌, ◌≤◌, true, false, None, Some, length, IfErr, IfOk, IfSome, OnErr, Ok, Err};
 ghost use Rattle.std.specs.Net.Socket.{socket_port};
-ghost use Rattle.cb_slots.specs.declared.fault.NodeFault.TheVariants.{Io, Memory, NoSlot};
+ghost use Rattle.std.specs.declared.io.ErrorKind.TheVariants.{NotConnected};
+ghost use Rattle.cb_node.specs.Fault.{IsIo};
+ghost use Rattle.cb_node.specs.declared.fault.NodeFault.TheVariants.{Io, Memory, NoSlot};
 ghost use Rattle.cb_node.specs.Node.{HasNoUnused, IsServed, ListensBy, end_of, first_of, with_listens};
 
+use crate::choosing::{has_left, lowest_unused};
+use crate::connecting::connect_to;
+use crate::fault::NodeFault;
+use crate::listening::Listening;
 use crate::node::Node;
 use cb_base::Shared;
-use cb_dialling::connect_to;
 use cb_peers::Link;
-use cb_slots::{Listening, NodeFault, has_left, lowest_unused};
+use std::io::ErrorKind;
 use std::marker::{Copy, Send};
 use std::net::{IpAddr, Ipv4Addr, Net, SocketAddr, TcpListener, TcpStream};
 use std::sync::Wait;
@@ -16,7 +21,7 @@ use std::thread::Threads;
 
 /// A connection that a peer made and that no slot serves yet. It is closed when it is let go.
 #[derive(Drop)]
-pub struct Waiting {
+pub struct IncomingConnection {
     /// Its stream.
     pub stream: TcpStream,
     /// Where the peer is.
@@ -39,7 +44,7 @@ impl<
         ensures again { IfSome self.old.listens
             (λ at. (result ≡ Ok (socket_port at)) × (self.new ≡ self.old)) }
         ensures err { OnErr result (self.new ≡ self.old) }
-        ensures kinds { IfErr result (λ fault. fault ≡ Io) }
+        ensures kinds { IfErr result IsIo }
     {
         Ok(self.listen_at(loopback(0))?.port())
     }
@@ -50,7 +55,7 @@ impl<
         ensures ok { IfOk result (λ at. self.new ≡ with_listens self.old (Some at)) }
         ensures again { IfSome self.old.listens (λ at. (result ≡ Ok at) × (self.new ≡ self.old)) }
         ensures err { OnErr result (self.new ≡ self.old) }
-        ensures kinds { IfErr result (λ fault. fault ≡ Io) }
+        ensures kinds { IfErr result IsIo }
     {
         if let Some(listening) = &self.listening {
             return Ok(listening.address());
@@ -94,7 +99,8 @@ impl<R: Threads + Wait + Copy + Send + Drop + 'static> Node<R> {
     /// - what the hall refuses, and `NodeFault::Memory`.
     pub fn accept(&mut self) -> Result<u16, NodeFault>
         ensures served { IsServed true self.old self.new result }
-        ensures deaf { self.old.listens ≡ None → (result ≡ Err NoSlot) ⊎ (result ≡ Err Io) }
+        ensures deaf { self.old.listens ≡ None →
+            (result ≡ Err NoSlot) ⊎ (result ≡ Err (Io NotConnected)) }
     {
         self.look_for_slot(true)?;
         let stream = self.next_peer()?;
@@ -103,8 +109,8 @@ impl<R: Threads + Wait + Copy + Send + Drop + 'static> Node<R> {
 
     /// Waits for a peer.
     fn next_peer(&self) -> Result<TcpStream, NodeFault>
-        ensures deaf { self.now.listens ≡ None → result ≡ Err Io }
-        ensures kinds { IfErr result (λ fault. fault ≡ Io) }
+        ensures deaf { self.now.listens ≡ None → result ≡ Err (Io NotConnected) }
+        ensures kinds { IfErr result IsIo }
     {
         self.listening()?.accept(&self.service.rt)
     }
@@ -113,15 +119,15 @@ impl<R: Threads + Wait + Copy + Send + Drop + 'static> Node<R> {
     /// doesn't wait for one, and uses no slot (`admit`).
     ///
     /// Fails with `NodeFault::Io` if the node doesn't listen or a socket fails.
-    pub fn next_waiting(&self) -> Result<Option<Waiting>, NodeFault>
-        ensures deaf { self.now.listens ≡ None → result ≡ Err Io }
-        ensures kinds { IfErr result (λ fault. fault ≡ Io) }
+    pub fn next_waiting(&self) -> Result<Option<IncomingConnection>, NodeFault>
+        ensures deaf { self.now.listens ≡ None → result ≡ Err (Io NotConnected) }
+        ensures kinds { IfErr result IsIo }
     {
         let Some(stream) = self.listening()?.poll()? else {
             return Ok(None);
         };
         let address = stream.peer_addr()?;
-        Ok(Some(Waiting { stream, address }))
+        Ok(Some(IncomingConnection { stream, address }))
     }
 
     /// Serves a peer that connected by an inbound slot, whose number is returned. Fails as `accept`
@@ -237,12 +243,12 @@ impl<R: Threads + Wait + Copy + Send + Drop + 'static> Node<R> {
 
     /// The socket that listens. Fails only with `NodeFault::Io`, if there is none.
     fn listening(&self) -> Result<&Listening, NodeFault>
-        ensures deaf { self.now.listens ≡ None → result ≡ Err Io }
-        ensures kinds { IfErr result (λ fault. fault ≡ Io) }
+        ensures deaf { self.now.listens ≡ None → result ≡ Err (Io NotConnected) }
+        ensures kinds { IfErr result IsIo }
     {
         match &self.listening {
             Some(listening) => Ok(listening),
-            None => Err(NodeFault::Io),
+            None => Err(NodeFault::Io(ErrorKind::NotConnected)),
         }
     }
 }

@@ -1,17 +1,16 @@
 //! What a client reads of a node's chain and mempool. Each call holds the hall's lock for a short
 //! time, however long the chain is.
 ghost use Rattle.std.specs.Prelude.{◌≡◌, IfErr};
-ghost use Rattle.cb_slots.specs.declared.fault.NodeFault.TheVariants.{Memory};
+ghost use Rattle.cb_node.specs.declared.fault.NodeFault.TheVariants.{Memory};
 
+use crate::fault::NodeFault;
 use crate::looking::state_of;
 use crate::node::Node;
 use cb_base::{Fault, Hash256, Shared};
-use cb_block::{Header, SoundBlock};
-use cb_reading::{
+use cb_block::{Header, OutPoint, SoundBlock, Tx};
+use cb_state::{
     HeaderLook, OutputLook, header_look, headers_from, is_marked, output_look, pooled, value_below,
 };
-use cb_slots::NodeFault;
-use cb_tx::{OutPoint, Tx};
 use std::marker::{Copy, Send};
 use std::sync::Wait;
 use std::thread::Threads;

@@ -1,16 +1,19 @@
 //! How a slot comes to serve a connection.
 ghost use Rattle.std.specs.Prelude.{◌≡◌, ◌≢◌, ◌<◌, ◌≤◌, true, false, length, IfOk, OnErr, OnOk, Ok, Err};
-ghost use Rattle.cb_journal.specs.Connections.{most_peers};
-ghost use Rattle.cb_slots.specs.declared.fault.NodeFault.TheVariants.{NoSlot};
-ghost use Rattle.cb_slots.specs.Choosing.{HasNone, IsChosen};
-ghost use Rattle.cb_slots.specs.Slot.{AreAlike, AreAlikeBut, AreSlotsOf, IsInboxOf, IsNew, WaitsAt, uses_of};
+ghost use Rattle.cb_hall.specs.Connections.{most_peers};
+ghost use Rattle.cb_node.specs.declared.fault.NodeFault.TheVariants.{NoSlot};
+ghost use Rattle.cb_node.specs.Choosing.{HasNone, IsChosen};
+ghost use Rattle.cb_node.specs.Slot.{AreAlike, AreAlikeBut, AreSlotsOf, IsInboxOf, IsNew, WaitsAt, uses_of};
 
+use crate::choosing::lowest_unused;
+use crate::crewing::shared;
+use crate::fault::NodeFault;
 use crate::opening::NodeWork;
 use crate::settings::NodeSettings;
+use crate::slot::{Common, Slot};
 use cb_base::{Fault, Shared};
 use cb_hall::{Badge, Hall};
 use cb_peers::Links;
-use cb_slots::{Common, NodeFault, Slot, lowest_unused, shared};
 use std::alloc::Global;
 use std::marker::{Copy, Send};
 use std::net::TcpStream;
@@ -18,7 +21,6 @@ use std::sync::{Mutex, Wait};
 use std::thread::Threads;
 
 /// By what a node serves connections.
-#[derive(Drop)]
 pub struct Service<R: Wait + Drop> {
     /// By which it waits and starts threads.
     pub rt: R,
@@ -30,6 +32,34 @@ pub struct Service<R: Wait + Drop> {
     pub hall: Shared<Mutex<Hall>>,
     /// The connections that aren't over.
     pub links: Shared<Links>,
+}
+
+impl<R: Wait + Drop> Drop for Service<R> {
+    fn drop(self) {
+        let Service {
+            rt: _,
+            alloc: _,
+            settings: _,
+            hall: _,
+            links: _,
+        } = self;
+    }
+}
+
+impl<R: Wait + Drop> Service<R> {
+    /// The hall, of a node that is over.
+    pub fn into_hall(self) -> Shared<Mutex<Hall>>
+        ensures { result ≡ self.hall }
+    {
+        let Service {
+            rt: _,
+            alloc: _,
+            settings: _,
+            hall,
+            links: _,
+        } = self;
+        hall
+    }
 }
 
 impl<R: Threads + Wait + Copy + Send + Drop + 'static> Service<R> {

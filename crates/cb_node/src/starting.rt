@@ -1,9 +1,11 @@
 //! How a node starts.
 ghost use Rattle.std.specs.Prelude.{◌≡◌, ◌+◌, ◌≤◌, length, IfOk};
 ghost use Rattle.cb_crew.specs.Crew.{AreHandlersOf};
-ghost use Rattle.cb_journal.specs.Connections.{most_peers};
+ghost use Rattle.cb_hall.specs.Connections.{most_peers};
 ghost use Rattle.cb_node.specs.Node.{IsNewNode, first_labels};
 
+use crate::crewing::{Crewed, crew_slots, shared, start_handlers};
+use crate::fault::NodeFault;
 use crate::node::Node;
 use crate::opening::NodeWork;
 use crate::serving::Service;
@@ -11,7 +13,6 @@ use crate::settings::NodeSettings;
 use cb_base::Seed;
 use cb_hall::Hall;
 use cb_peers::Links;
-use cb_slots::{Crewed, NodeFault, crew_slots, shared, start_handlers};
 use std::alloc::Global;
 use std::marker::{Copy, Send};
 use std::sync::{Mutex, Wait};

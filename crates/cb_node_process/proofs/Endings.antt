@@ -2,13 +2,13 @@
 use Rattle.std.proofs.Common.{◌≡◌, ◌⊎◌, ◌↔◌, ℕ, Bool, true, List, Option, Result, Ok, Err, IfOk, IfErr, OnOk, inl, inr, subst}
 use Rattle.std.specs.Io.KnownBytes.{Appends}
 use Rattle.std.specs.declared.net.socket_addr.SocketAddr.{SocketAddr}
-use Rattle.cb_run.specs.declared.ending.Halt.{Halt}
+use Rattle.cb_control.specs.declared.ending.Halt.{Halt}
 use Rattle.cb_control.specs.declared.verdict.Verdict.{Verdict}
 use Rattle.cb_control.specs.declared.reply.Reply.TheVariants as replies
 use Rattle.cb_control.specs.Outcomes.{LacksOrFails, says_yes}
 use Rattle.cb_process.specs.Starting.{IsDeaf, IsPlace, deaf_text}
 use Rattle.cb_process.specs.declared.orders.NodeOrders.{NodeOrders}
-use Rattle.cb_process.specs.declared.start_fault.StartFault.{StartFault}
+use Rattle.cb_rpc_serve.specs.declared.start_fault.StartFault.{StartFault}
 use Rattle.cb_node_process.specs.Telling.{StopsEarly, Tells, TellsAll, TellsOpening}
 use Rattle.cb_node_process.proofs.Runs.{tells_all}
 

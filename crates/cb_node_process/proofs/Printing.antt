@@ -1,8 +1,8 @@
 -- What answers an order.
 use Rattle.std.proofs.Common.{◌≡◌, ◌≢◌, true, inl, inr, refl}
 use Rattle.std.specs.Prelude.{⊤}
-use Rattle.cb_slots.specs.declared.fault.NodeFault.{NodeFault}
-use Rattle.cb_slots.specs.declared.fault.NodeFault.TheVariants as node
+use Rattle.cb_node.specs.declared.fault.NodeFault.{NodeFault}
+use Rattle.cb_node.specs.declared.fault.NodeFault.TheVariants as node
 use Rattle.cb_control.specs.declared.order.Deed.{Deed}
 use Rattle.cb_control.specs.declared.order.Order.{Order}
 use Rattle.cb_control.specs.declared.order.Order.TheVariants as orders
@@ -23,7 +23,7 @@ unknown_is_known e = absurd cc
 
 -- a node refuses no line as unreadable
 pub node_refuses : (fault : NodeFault) → refusal_of fault ≢ refusals.Unreadable
-node_refuses node.Io e = absurd cc
+node_refuses (node.Io kind) e = absurd cc
 node_refuses node.NoSlot e = absurd cc
 node_refuses node.Memory e = absurd cc
 node_refuses (node.Hall fault) e = absurd cc

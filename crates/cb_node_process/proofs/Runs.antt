@@ -13,8 +13,8 @@ use Rattle.cb_control.specs.declared.reply.Reply.TheVariants as replies
 use Rattle.cb_control.specs.declared.verdict.Verdict.{Verdict}
 use Rattle.cb_control.specs.Outcomes.{says_yes}
 use Rattle.cb_control.specs.ReplyText.{reply_text}
-use Rattle.cb_node_process.specs.declared.answering.Response.{Response}
-use Rattle.cb_node_process.specs.declared.answering.Response.TheVariants as responses
+use Rattle.cb_node_process.specs.declared.order_answering.LineOutcome.{LineOutcome}
+use Rattle.cb_node_process.specs.declared.order_answering.LineOutcome.TheVariants as responses
 use Rattle.cb_node_process.specs.Telling.{Comes, IsAnswer, IsTold, Responds, Tells, TellsAll, TellsOpening}
 
 -- what answers where more is well
@@ -26,7 +26,7 @@ pub told_weaker : {A B : Type 0} → (B → A) → (told : Reply) → IsTold A t
 told_weaker f told (reply, is, printed) = (reply, answer_weaker f reply is, printed)
 
 -- what comes of an order
-pub order_comes : (order : Order) (response : Response) → Responds order response → Comes response
+pub order_comes : (order : Order) (response : LineOutcome) → Responds order response → Comes response
 order_comes order (responses.Reply reply) suits = inl (order, suits)
 order_comes order (responses.Failed reply) suits = inl (order, suits)
 order_comes order responses.Silence waits = tt

@@ -1,1 +1,2 @@
+pub mod Suiting
 pub mod Telling

@@ -3,8 +3,8 @@ use Rattle.std.specs.Prelude.{◌≡◌, ℕ, ◌⊎◌, ⊤, Bool, true, List, 
 use Rattle.std.specs.Io.KnownBytes.{Appends}
 use Rattle.std.specs.List.{All, flat_map}
 use Rattle.std.specs.declared.net.socket_addr.SocketAddr.{SocketAddr}
-use Rattle.cb_run.specs.declared.ending.Halt.{Halt}
-use Rattle.cb_run.specs.declared.ending.Halt.TheVariants as halts
+use Rattle.cb_control.specs.declared.ending.Halt.{Halt}
+use Rattle.cb_control.specs.declared.ending.Halt.TheVariants as halts
 use Rattle.cb_control.specs.declared.order.Order.{Order}
 use Rattle.cb_control.specs.declared.order.Order.TheVariants as orders
 use Rattle.cb_control.specs.declared.refusal.Refusal.{Refusal}
@@ -19,8 +19,8 @@ use Rattle.cb_control.specs.ReplyText.{IsOr, reply_text}
 use Rattle.cb_crew.specs.Crew.{CrewState}
 use Rattle.cb_node.specs.declared.node.NodeEnd.{NodeEnd}
 use Rattle.cb_driver.specs.Auditing.{IsAudited}
-use Rattle.cb_node_process.specs.declared.answering.Response.{Response}
-use Rattle.cb_node_process.specs.declared.answering.Response.TheVariants as responses
+use Rattle.cb_node_process.specs.declared.order_answering.LineOutcome.{LineOutcome}
+use Rattle.cb_node_process.specs.declared.order_answering.LineOutcome.TheVariants as responses
 
 -- ---- answers
 
@@ -38,14 +38,14 @@ pub record Suits (Well : Type 0) (order : Order) (reply : Reply) : Type 0 where
 
 -- What comes of an order: an answer, which is well unless it failed; `Connect` may be answered
 -- later, and `Quit` is.
-abbrev pub Responds : Order → Response → Type 0
+abbrev pub Responds : Order → LineOutcome → Type 0
 Responds order (responses.Reply reply) = Suits ⊤ order reply
 Responds order (responses.Failed reply) = Suits ⊥ order reply
 Responds order responses.Silence = (address : SocketAddr) × (order ≡ orders.Connect address)
 Responds order (responses.End broken) = (order ≡ orders.Quit) × (broken ≡ None)
 
 -- What answers a `restart` tells the audit of what the node of this crew handed out as it ended.
-abbrev pub TellsAudit : (N : Type 0) → CrewState → Response → Type 0
+abbrev pub TellsAudit : (N : Type 0) → CrewState → LineOutcome → Type 0
 TellsAudit N crew response =
     (end : NodeEnd N) × (verdict : Verdict) × (tip : Tip)
     × IsAudited crew end.read end.desks.items verdict
@@ -66,7 +66,7 @@ IsAnswer Well reply =
     ⊎ ((reply ≡ replies.Refused refusals.Unreadable) ⊎ (reply ≡ replies.Refused refusals.Memory)))
 
 -- what a moment brings: an answer, which is well unless it failed, nothing, or the end
-abbrev pub Comes : Response → Type 0
+abbrev pub Comes : LineOutcome → Type 0
 Comes (responses.Reply reply) = IsAnswer ⊤ reply
 Comes (responses.Failed reply) = IsAnswer ⊥ reply
 Comes responses.Silence = ⊤

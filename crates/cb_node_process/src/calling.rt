@@ -1,24 +1,25 @@
 //! What a process answers to a call of JSON-RPC.
 ghost use Rattle.std.specs.Prelude.{◌≡◌, IfOk};
 ghost use Rattle.cb_base.specs.DoubleHash.{double_hash};
-ghost use Rattle.cb_tx.specs.Text.{tx_text};
-ghost use Rattle.cb_rpc_json.specs.declared.told.Told.TheVariants.{Hash, Nothing};
-ghost use Rattle.cb_rpc_node.specs.Suiting.{AreHashes, IsLevel, IsTaken, Suits};
+ghost use Rattle.cb_block.specs.TxText.{tx_text};
+ghost use Rattle.cb_rpc.specs.declared.told.CallResult.TheVariants.{Hash, Nothing};
+ghost use Rattle.cb_node_process.specs.Suiting.{AreHashes, IsLevel, IsTaken, Suits};
 
-use crate::answering::{Response, obey};
+use crate::call_answering::answer;
+use crate::order_answering::{LineOutcome, obey};
+use crate::outputs::is_made;
 use crate::peer_calls::{
     add_node, disconnect_node, net_totals, network, peer_info, ping, set_network,
 };
+use crate::survey::Survey;
 use cb_base::{Fault, Hash256, Shared};
-use cb_block::{Block, Header};
+use cb_block::{Block, Header, Tx};
 use cb_control::{Deed, Order, Refusal, Reply, Tip};
 use cb_node::{Local, NodeFault};
 use cb_pipes::Pipes;
 use cb_process::{Process, ProcessHost};
+use cb_rpc::CallResult;
 use cb_rpc_call::{Call, Method, RpcFault};
-use cb_rpc_json::Told;
-use cb_rpc_node::{Survey, answer, is_made, or_memory};
-use cb_tx::Tx;
 use log::{LevelFilter, Log};
 
 /// Answers a call. What an operator can order too goes the same way as an order. A call that asks
@@ -29,27 +30,27 @@ pub fn answer_call<R: ProcessHost, L: Log>(
     call: Call,
     pipes: &Pipes,
     log: &L,
-) -> Result<Told, RpcFault>
+) -> Result<CallResult, RpcFault>
     ensures { IfOk result (Suits call) }
 {
     match call {
+        Call::Read(call) => answer(process.alloc(), process.node(), survey, call),
         Call::SendTransaction(tx) => send_transaction(process, tx, log),
         Call::SubmitBlock(block) => submit_block(process, block, log),
         Call::SubmitHeader(header) => submit_header(process, header),
         Call::Generate(count) => generate(process, count, log),
         Call::NetworkInfo => Ok(network(process)),
         Call::NetTotals => Ok(net_totals(process)),
-        Call::ConnectionCount => Ok(Told::Number(process.watched.len() as u64)),
+        Call::ConnectionCount => Ok(CallResult::Number(process.watched().len() as u64)),
         Call::PeerInfo => peer_info(process),
         Call::AddNode(address, aim) => add_node(process, address, aim, log),
         Call::DisconnectNode(whom) => disconnect_node(process, whom, log),
         Call::SetNetworkActive(on) => set_network(process, on, log),
         Call::Ping => Ok(ping(process)),
-        Call::Uptime => Ok(Told::Number(process.now() / 1_000)),
+        Call::Uptime => Ok(CallResult::Number(process.now() / 1_000)),
         Call::Logging(level) => Ok(logging(pipes, level)),
-        Call::Help(method) => Ok(Told::Words(help(method))),
-        Call::Stop => Ok(Told::Words("cbrelay stopping")),
-        other => answer(process.alloc, &process.node, survey, other),
+        Call::Help(method) => Ok(CallResult::Words(help(method))),
+        Call::Stop => Ok(CallResult::Words("cbrelay stopping")),
     }
 }
 
@@ -60,15 +61,15 @@ pub fn do_order<R: ProcessHost, L: Log>(
     log: &L,
 ) -> Result<Option<Reply>, Refusal> {
     match obey(process, order, log)? {
-        Response::Reply(reply) | Response::Failed(reply) => Ok(Some(reply)),
-        Response::Silence | Response::End(_) => Ok(None),
+        LineOutcome::Reply(reply) | LineOutcome::Failed(reply) => Ok(Some(reply)),
+        LineOutcome::Silence | LineOutcome::End(_) => Ok(None),
     }
 }
 
 /// Why a call is refused, by why an order is.
 pub fn fault_of(refusal: Refusal) -> RpcFault {
     match refusal {
-        Refusal::Unreadable => RpcFault::WrongType,
+        Refusal::Unreadable => RpcFault::Unreadable,
         Refusal::Fault(Fault::Memory) | Refusal::Memory => RpcFault::Memory,
         Refusal::Fault(Fault::NoInput) => RpcFault::MissingInputs,
         Refusal::Fault(Fault::Remade) => RpcFault::InChain,
@@ -89,14 +90,14 @@ fn send_transaction<R: ProcessHost, L: Log>(
     process: &mut Process<R>,
     tx: Shared<Tx>,
     log: &L,
-) -> Result<Told, RpcFault>
+) -> Result<CallResult, RpcFault>
     ensures { IfOk result (λ told. told ≡ Hash (double_hash (tx_text tx))) }
 {
-    let txid = or_memory(tx.txid(process.alloc))?;
-    let owner: Shared<Tx> = or_memory(tx.clone())?;
+    let txid = tx.txid(process.alloc())?;
+    let owner: Shared<Tx> = tx.clone()?;
     match do_order(process, Order::Do(Deed::Tx(owner)), log) {
-        Ok(_) | Err(Refusal::Fault(Fault::Known)) => Ok(Told::Hash(txid)),
-        Err(Refusal::Fault(Fault::NoInput)) if is_made(&process.node, txid, &tx)? => {
+        Ok(_) | Err(Refusal::Fault(Fault::Known)) => Ok(CallResult::Hash(txid)),
+        Err(Refusal::Fault(Fault::NoInput)) if is_made(process.node(), txid, &tx)? => {
             Err(RpcFault::InChain)
         }
         Err(refusal) => Err(fault_of(refusal)),
@@ -108,25 +109,29 @@ fn submit_block<R: ProcessHost, L: Log>(
     process: &mut Process<R>,
     block: Shared<Block>,
     log: &L,
-) -> Result<Told, RpcFault>
+) -> Result<CallResult, RpcFault>
     ensures { IfOk result IsTaken }
 {
     match do_order(process, Order::Do(Deed::Submit(block)), log) {
-        Ok(_) => Ok(Told::Nothing),
-        Err(Refusal::Fault(fault)) => Ok(Told::Refusal(fault)),
+        Ok(_) => Ok(CallResult::Nothing),
+        Err(Refusal::Fault(fault)) => Ok(CallResult::Refusal(fault)),
         Err(refusal) => Err(fault_of(refusal)),
     }
 }
 
 /// `submitheader`. A header that is known already is no error.
-fn submit_header<R: ProcessHost>(process: &mut Process<R>, header: Header) -> Result<Told, RpcFault>
+fn submit_header<R: ProcessHost>(
+    process: &mut Process<R>,
+    header: Header,
+) -> Result<CallResult, RpcFault>
     ensures { IfOk result (λ told. told ≡ Nothing) }
 {
-    match process.node.give(Local::Header(header)) {
-        Ok(()) | Err(NodeFault::Hall(Fault::Known)) => Ok(Told::Nothing),
+    match process.node().give(Local::Header(header)) {
+        Ok(()) | Err(NodeFault::Hall(Fault::Known)) => Ok(CallResult::Nothing),
         Err(NodeFault::Hall(fault)) => Err(RpcFault::HeaderRejected(fault)),
         Err(NodeFault::Memory) => Err(RpcFault::Memory),
-        Err(NodeFault::Io | NodeFault::NoSlot) => Err(RpcFault::Io),
+        Err(NodeFault::Io(_)) => Err(RpcFault::Io),
+        Err(NodeFault::NoSlot) => Err(RpcFault::NoSlot),
     }
 }
 
@@ -135,11 +140,12 @@ fn generate<R: ProcessHost, L: Log>(
     process: &mut Process<R>,
     count: u16,
     log: &L,
-) -> Result<Told, RpcFault>
+) -> Result<CallResult, RpcFault>
     ensures { IfOk result AreHashes }
 {
     match do_order(process, Order::Do(Deed::Mine(count)), log) {
-        Ok(Some(Reply::Mined(_, tip))) => Ok(Told::Hashes(last_hashes(process, count, tip)?)),
+        Ok(Some(Reply::Mined(_, tip))) => Ok(CallResult::Hashes(last_hashes(process, count, tip)?)),
+        // `obey` answers an order to mine with `Mined` alone.
         Ok(_) => Err(RpcFault::Io),
         Err(Refusal::Fault(fault)) => Err(RpcFault::MiningFailed(fault)),
         Err(refusal) => Err(fault_of(refusal)),
@@ -152,13 +158,13 @@ fn last_hashes<R: ProcessHost>(
     count: u16,
     tip: Tip,
 ) -> Result<Vec<Hash256>, RpcFault> {
-    let mut hashes = or_memory(Vec::with_capacity(process.alloc, usize::from(count)))?;
+    let mut hashes = Vec::with_capacity(process.alloc(), usize::from(count))?;
     let mut hash = tip.hash;
     for _ in 0..count {
-        let Some(look) = process.node.header(&hash) else {
+        let Some(look) = process.node().header(&hash) else {
             break;
         };
-        or_memory(hashes.push(hash))?;
+        hashes.push(hash)?;
         hash = look.header.prev;
     }
     hashes.reverse();
@@ -175,11 +181,11 @@ fn help(method: Option<Option<Method>>) -> &'static str {
 }
 
 /// `logging`: which records are logged, from now on if a level is named.
-fn logging(pipes: &Pipes, level: Option<LevelFilter>) -> Told
+fn logging(pipes: &Pipes, level: Option<LevelFilter>) -> CallResult
     ensures { IsLevel result }
 {
     if let Some(level) = level {
         pipes.set_level(level);
     }
-    Told::Level(pipes.level())
+    CallResult::Level(pipes.level())
 }

@@ -1,10 +1,10 @@
 //! The calls of JSON-RPC that a process answers.
 use crate::calling::answer_call;
+use crate::survey::Survey;
 use cb_base::Shared;
 use cb_pipes::Pipes;
 use cb_process::{Process, ProcessHost, StartFault};
 use cb_rpc_call::Call;
-use cb_rpc_node::Survey;
 use cb_rpc_serve::{Asked, RpcSettings, Server};
 use log::{Log, info};
 use std::alloc::Global;
@@ -38,8 +38,8 @@ impl Calls {
         info!(log; "JSON-RPC at {address}");
         Ok(Calls {
             server,
-            survey: Survey::new(alloc, process.seed),
-            restarts: process.restarts,
+            survey: Survey::new(alloc, process.seed()),
+            restarts: process.restarts(),
             stops: false,
         })
     }
@@ -96,9 +96,9 @@ impl Calls {
 
     /// Begins the survey anew if the process has another node.
     fn follow<R: ProcessHost>(&mut self, process: &Process<R>) {
-        if self.restarts != process.restarts {
-            self.restarts = process.restarts;
-            self.survey = Survey::new(process.alloc, process.seed);
+        if self.restarts != process.restarts() {
+            self.restarts = process.restarts();
+            self.survey = Survey::new(process.alloc(), process.seed());
         }
     }
 }

@@ -1,16 +1,14 @@
 //! Answers about peers, under the names of Bitcoin Core's src/rpc/net.cpp.
 ghost use Rattle.std.specs.Prelude.{◌≡◌, IfOk};
-ghost use Rattle.cb_rpc_json.specs.declared.told.Told.TheVariants.{Nothing, Switch};
-ghost use Rattle.cb_rpc_node.specs.Suiting.{AreTotals, ArePeers, IsNetwork};
+ghost use Rattle.cb_rpc.specs.declared.told.CallResult.TheVariants.{Nothing, Switch};
+ghost use Rattle.cb_node_process.specs.Suiting.{AreTotals, ArePeers, IsNetwork};
 
 use crate::calling::{do_order, fault_of};
 use cb_control::{Deed, Order, Refusal};
 use cb_pipes::unix_millis;
-use cb_process::{Process, ProcessHost};
+use cb_process::{Process, ProcessHost, Watched};
+use cb_rpc::{CallResult, NetworkReport, TotalsReport, slot_of_id};
 use cb_rpc_call::{Aim, RpcFault, Whom};
-use cb_rpc_json::{NetworkReport, Told, TotalsReport, slot_of_id};
-use cb_rpc_node::or_memory;
-use cb_watching::Watched;
 use log::Log;
 use std::net::SocketAddr;
 
@@ -18,13 +16,13 @@ use std::net::SocketAddr;
 const HEAD_BYTES: u64 = 24;
 
 /// `getnetworkinfo`.
-pub fn network<R: ProcessHost>(process: &Process<R>) -> Told
+pub fn network<R: ProcessHost>(process: &Process<R>) -> CallResult
     ensures { IsNetwork result }
 {
-    let all = process.watched.len() as u64;
-    let inbound = inbound_of(process.watched.as_slice());
-    Told::Network(NetworkReport {
-        active: !process.off,
+    let all = process.watched().len() as u64;
+    let inbound = inbound_of(process.watched());
+    CallResult::Network(NetworkReport {
+        active: !process.is_off(),
         inbound,
         outbound: all.saturating_sub(inbound),
     })
@@ -42,23 +40,23 @@ fn inbound_of(list: &[Watched]) -> u64 {
 }
 
 /// `getnettotals`.
-pub fn net_totals<R: ProcessHost>(process: &Process<R>) -> Told
+pub fn net_totals<R: ProcessHost>(process: &Process<R>) -> CallResult
     ensures { AreTotals result }
 {
     let moved = process.moved_in_all();
     let heads = moved.messages.saturating_mul(HEAD_BYTES);
-    Told::Totals(TotalsReport {
+    CallResult::Totals(TotalsReport {
         received: moved.payload.saturating_add(heads),
         sent: moved.written,
-        millis: unix_millis(&process.rt),
+        millis: unix_millis(process.rt()),
     })
 }
 
 /// `getpeerinfo`. Fails only with `RpcFault::Memory`.
-pub fn peer_info<R: ProcessHost>(process: &Process<R>) -> Result<Told, RpcFault>
+pub fn peer_info<R: ProcessHost>(process: &Process<R>) -> Result<CallResult, RpcFault>
     ensures { IfOk result ArePeers }
 {
-    Ok(Told::Peers(or_memory(process.peer_reports())?))
+    Ok(CallResult::Peers(process.peer_reports()?))
 }
 
 /// `addnode`. Unlike an operator's `connect`, nobody waits for the dial.
@@ -67,7 +65,7 @@ pub fn add_node<R: ProcessHost, L: Log>(
     address: SocketAddr,
     aim: Aim,
     log: &L,
-) -> Result<Told, RpcFault>
+) -> Result<CallResult, RpcFault>
     ensures { IfOk result (λ told. told ≡ Nothing) }
 {
     let done = match aim {
@@ -76,7 +74,7 @@ pub fn add_node<R: ProcessHost, L: Log>(
         Aim::Remove => return remove_node(process, address, log),
     };
     match done {
-        Ok(()) => Ok(Told::Nothing),
+        Ok(()) => Ok(CallResult::Nothing),
         Err(refusal) => Err(fault_of(refusal)),
     }
 }
@@ -86,11 +84,11 @@ fn remove_node<R: ProcessHost, L: Log>(
     process: &mut Process<R>,
     address: SocketAddr,
     log: &L,
-) -> Result<Told, RpcFault>
+) -> Result<CallResult, RpcFault>
     ensures { IfOk result (λ told. told ≡ Nothing) }
 {
     match do_order(process, Order::Disconnect(address), log) {
-        Ok(_) => Ok(Told::Nothing),
+        Ok(_) => Ok(CallResult::Nothing),
         Err(refusal) => Err(fault_of(refusal)),
     }
 }
@@ -100,14 +98,14 @@ pub fn disconnect_node<R: ProcessHost, L: Log>(
     process: &mut Process<R>,
     whom: Whom,
     log: &L,
-) -> Result<Told, RpcFault>
+) -> Result<CallResult, RpcFault>
     ensures { IfOk result (λ told. told ≡ Nothing) }
 {
-    let Some(slot) = slot_of(process.watched.as_slice(), whom) else {
+    let Some(slot) = slot_of(process.watched(), whom) else {
         return Err(RpcFault::NotConnected);
     };
     match do_order(process, Order::Do(Deed::Kick(slot)), log) {
-        Ok(_) => Ok(Told::Nothing),
+        Ok(_) => Ok(CallResult::Nothing),
         Err(Refusal::NoSlot) => Err(RpcFault::NotConnected),
         Err(refusal) => Err(fault_of(refusal)),
     }
@@ -139,19 +137,19 @@ pub fn set_network<R: ProcessHost, L: Log>(
     process: &mut Process<R>,
     on: bool,
     log: &L,
-) -> Result<Told, RpcFault>
+) -> Result<CallResult, RpcFault>
     ensures { IfOk result (λ told. told ≡ Switch on) }
 {
     match do_order(process, Order::Network(on), log) {
-        Ok(_) => Ok(Told::Switch(on)),
+        Ok(_) => Ok(CallResult::Switch(on)),
         Err(refusal) => Err(fault_of(refusal)),
     }
 }
 
 /// `ping`.
-pub fn ping<R: ProcessHost>(process: &mut Process<R>) -> Told
+pub fn ping<R: ProcessHost>(process: &mut Process<R>) -> CallResult
     ensures { result ≡ Nothing }
 {
     process.ping_all();
-    Told::Nothing
+    CallResult::Nothing
 }

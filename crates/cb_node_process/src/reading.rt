@@ -1,12 +1,11 @@
 //! The thread that reads the operator's lines.
 ghost use Rattle.std.specs.Prelude.{◌≡◌, ◌⊎◌, IfErr, IsOkUnless};
-ghost use Rattle.cb_run.specs.declared.ending.Halt.TheVariants.{Memory, ReadFailed};
+ghost use Rattle.cb_control.specs.declared.ending.Halt.TheVariants.{Memory, ReadFailed};
 
 use cb_base::{In, Shared, Source};
-use cb_control::{Order, read_order};
+use cb_control::{Halt, LineReader, Order, read_order};
 use cb_pipes::Pipes;
 use cb_process::ProcessHost;
-use cb_run::{Halt, LineReader};
 use crossbeam_channel::{Receiver, RecvTimeoutError, Sender, bounded};
 use std::alloc::Global;
 use std::io::StdinLock;
@@ -80,7 +79,7 @@ struct Coming {
 /// The lines that come, and the thread that reads them. It returns once it has read `quit` or the
 /// end of input.
 #[derive(Drop)]
-pub struct Arrivals {
+pub struct LineQueue {
     /// What came and wasn't answered yet.
     coming: Receiver<Coming, Global>,
     /// How many bytes that has.
@@ -88,7 +87,7 @@ pub struct Arrivals {
     thread: JoinHandle<()>,
 }
 
-impl Arrivals {
+impl LineQueue {
     /// Waits so long for what comes next.
     pub fn next<R: Wait + Clock>(
         &self,
@@ -102,7 +101,7 @@ impl Arrivals {
 
     /// Waits for the thread. It must have read `quit` or the end of input, or be about to.
     pub fn join<R: ProcessHost>(self, rt: &R) {
-        let Arrivals {
+        let LineQueue {
             coming,
             waiting,
             thread,
@@ -127,7 +126,7 @@ pub fn start_reading<R: ProcessHost>(
     rt: &R,
     alloc: Global,
     pipes: &Shared<Pipes>,
-) -> Result<Arrivals, Halt>
+) -> Result<LineQueue, Halt>
     ensures { IfErr result (λ halt. (halt ≡ Memory) ⊎ (halt ≡ ReadFailed)) }
 {
     let (sending, coming, waiting) = ways(alloc, pipes)?;
@@ -138,7 +137,7 @@ pub fn start_reading<R: ProcessHost>(
         sending.pipes.ask_end();
     });
     match started {
-        Ok(thread) => Ok(Arrivals {
+        Ok(thread) => Ok(LineQueue {
             coming,
             waiting,
             thread,

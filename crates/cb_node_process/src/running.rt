@@ -1,20 +1,19 @@
 //! Running a node until its operator ends it.
 ghost use Rattle.std.specs.Prelude.{◌≡◌, ◌↔◌, ◌⊎◌, ◌≤◌, [], true, IfErr, IfOk, OnErr, OnOk};
 ghost use Rattle.std.specs.Io.KnownBytes.{Appends};
-ghost use Rattle.cb_run.specs.declared.ending.Halt.TheVariants.{WriteFailed};
+ghost use Rattle.cb_control.specs.declared.ending.Halt.TheVariants.{WriteFailed};
 ghost use Rattle.cb_control.specs.Outcomes.{LacksOrFails};
 ghost use Rattle.cb_driver.specs.Auditing.{IsOfAnEnd};
 ghost use Rattle.cb_process.specs.Starting.{IsDeaf, IsPlace, deaf_text};
 ghost use Rattle.cb_node_process.specs.Telling.{Comes, HasRun, IsDialReply, StopsEarly, Tells, TellsAll, TellsOpening};
 
-use crate::answering::{Response, obey};
-use crate::desk::Desk;
-use crate::reading::{Arrival, Arrivals, Broken};
+use crate::interfaces::Interfaces;
+use crate::order_answering::{LineOutcome, obey};
+use crate::reading::{Arrival, Broken, LineQueue};
 use cb_base::{Seed, Shared, Sink};
-use cb_control::{Refusal, Reply, Verdict, write_reply};
+use cb_control::{Halt, Refusal, Reply, Status, Verdict, write_all, write_reply};
 use cb_pipes::{LogFault, PipedLog, Pipes, start_log};
 use cb_process::{NodeOrders, Process, ProcessHost, StartFault, is_well};
-use cb_run::{Halt, Status, write_all};
 use crossbeam_channel::RecvTimeoutError;
 use log::{LevelFilter, Log, Logged, info};
 use std::alloc::Global;
@@ -80,7 +79,10 @@ struct Deaf {
 
 impl From<LogFault> for Deaf {
     fn from(fault: LogFault) -> Deaf {
-        Deaf::from(StartFault::from(fault))
+        Deaf::from(match fault {
+            LogFault::Memory => StartFault::Memory,
+            LogFault::NoThread => StartFault::NoMeans,
+        })
     }
 }
 
@@ -188,8 +190,8 @@ fn run<R: ProcessHost, L: Log, W: Sink>(
     let starts = orders.connect.as_slice();
     let mut process = Process::start(rt, alloc, seed, orders)?;
     process.note_own(log, starts);
-    let mut desk = match Desk::open(rt, alloc, &process, orders, pipes, log) {
-        Ok(Ok(desk)) => desk,
+    let mut interfaces = match Interfaces::open(rt, alloc, &process, orders, pipes, log) {
+        Ok(Ok(interfaces)) => interfaces,
         Ok(Err(halt)) => {
             drop(process.finish(starts));
             return Ok(Err(halt));
@@ -202,9 +204,17 @@ fn run<R: ProcessHost, L: Log, W: Sink>(
             });
         }
     };
-    let served = serve(&rt, alloc, &mut process, &mut desk, pipes, log, writer);
+    let served = serve(
+        &rt,
+        alloc,
+        &mut process,
+        &mut interfaces,
+        pipes,
+        log,
+        writer,
+    );
     info!(log; "ending");
-    desk.close(&rt, served.is_ok());
+    interfaces.close(&rt, served.is_ok());
     process.note_all_ends(log);
     process.note_unreached(log, starts);
     let (end, verdict, reached) = process.finish(starts);
@@ -247,7 +257,7 @@ fn serve<R: ProcessHost, L: Log, W: Sink>(
     rt: &R,
     alloc: Global,
     process: &mut Process<R>,
-    desk: &mut Desk,
+    interfaces: &mut Interfaces,
     pipes: &Shared<Pipes>,
     log: &L,
     writer: &mut W,
@@ -257,21 +267,21 @@ fn serve<R: ProcessHost, L: Log, W: Sink>(
     ensures failed { IfErr result
         (λ halt. (halt ≡ WriteFailed) × (W.has_failed writer.new ≡ true)) }
 {
-    let address = process.address;
+    let address = process.address();
     info!(log; "listening at {address}");
     write_reply(alloc, &Reply::Listening(address), writer)?;
     let mut well = true;
     for _ in rt.forever() {
         process.poll(log);
         heed_failure(pipes, writer)?;
-        match advance(rt, process, desk, pipes, log) {
-            Response::Silence => {}
-            Response::Reply(reply) => write_reply(alloc, &reply, writer)?,
-            Response::Failed(reply) => {
+        match advance(rt, process, interfaces, pipes, log) {
+            LineOutcome::Silence => {}
+            LineOutcome::Reply(reply) => write_reply(alloc, &reply, writer)?,
+            LineOutcome::Failed(reply) => {
                 well = false;
                 write_reply(alloc, &reply, writer)?;
             }
-            Response::End(broken) => return Ok((broken, well)),
+            LineOutcome::End(broken) => return Ok((broken, well)),
         }
     }
     unreachable!()
@@ -294,23 +304,23 @@ fn heed_failure<W: Sink>(pipes: &Pipes, writer: &mut W) -> Result<(), Halt>
 fn advance<R: ProcessHost, L: Log>(
     rt: &R,
     process: &mut Process<R>,
-    desk: &mut Desk,
+    interfaces: &mut Interfaces,
     pipes: &Shared<Pipes>,
     log: &L,
-) -> Response
+) -> LineOutcome
     ensures { Comes result }
 {
     let pause = Duration::from_millis(PAUSE_MILLISECONDS);
-    let Desk { calls, arrivals } = desk;
+    let Interfaces { calls, arrivals } = interfaces;
     let Some(calls) = calls else {
         return next_response(rt, process, arrivals, pipes, log, pause);
     };
     calls.answer_waiting(rt, process, pipes, log);
     if calls.stops() {
-        return Response::End(None);
+        return LineOutcome::End(None);
     }
     let response = next_response(rt, process, arrivals, pipes, log, Duration::ZERO);
-    if let Response::Silence = &response {
+    if let LineOutcome::Silence = &response {
         calls.answer_next(rt, process, pipes, log, pause);
     }
     response
@@ -322,25 +332,25 @@ fn advance<R: ProcessHost, L: Log>(
 fn next_response<R: ProcessHost, L: Log>(
     rt: &R,
     process: &mut Process<R>,
-    arrivals: &Option<Arrivals>,
+    arrivals: &Option<LineQueue>,
     pipes: &Pipes,
     log: &L,
     pause: Duration,
-) -> Response
+) -> LineOutcome
     ensures { Comes result }
 {
-    if pipes.holds_answers() || process.awaited.is_some() {
+    if pipes.holds_answers() || process.awaits_dial() {
         thread::sleep(rt, pause);
-        return Response::Silence;
+        return LineOutcome::Silence;
     }
-    if let Some((address, served)) = process.outcome.take() {
-        return Response::Reply(dial_reply(address, served));
+    if let Some((address, served)) = process.take_outcome() {
+        return LineOutcome::Reply(dial_reply(address, served));
     }
     match arrivals {
         Some(arrivals) => answer_line(rt, process, arrivals, log, pause),
         None => {
             thread::sleep(rt, pause);
-            Response::Silence
+            LineOutcome::Silence
         }
     }
 }
@@ -350,22 +360,22 @@ fn next_response<R: ProcessHost, L: Log>(
 fn answer_line<R: ProcessHost, L: Log>(
     rt: &R,
     process: &mut Process<R>,
-    arrivals: &Arrivals,
+    arrivals: &LineQueue,
     log: &L,
     pause: Duration,
-) -> Response
+) -> LineOutcome
     ensures { Comes result }
 {
     match arrivals.next(rt, pause) {
         Ok(Arrival::Order(order)) => match obey(process, order, log) {
             Ok(response) => response,
-            Err(refusal) => Response::Reply(Reply::Refused(refusal)),
+            Err(refusal) => LineOutcome::Reply(Reply::Refused(refusal)),
         },
-        Ok(Arrival::Unreadable) => Response::Reply(Reply::Refused(Refusal::Unreadable)),
-        Ok(Arrival::NoMemory) => Response::Reply(Reply::Refused(Refusal::Memory)),
-        Ok(Arrival::End(broken)) => Response::End(broken),
-        Err(RecvTimeoutError::Timeout) => Response::Silence,
-        Err(RecvTimeoutError::Disconnected) => Response::End(None),
+        Ok(Arrival::Unreadable) => LineOutcome::Reply(Reply::Refused(Refusal::Unreadable)),
+        Ok(Arrival::NoMemory) => LineOutcome::Reply(Reply::Refused(Refusal::Memory)),
+        Ok(Arrival::End(broken)) => LineOutcome::End(broken),
+        Err(RecvTimeoutError::Timeout) => LineOutcome::Silence,
+        Err(RecvTimeoutError::Disconnected) => LineOutcome::End(None),
     }
 }
 

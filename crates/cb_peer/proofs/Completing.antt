@@ -5,9 +5,9 @@ use Rattle.cb_base.specs.declared.fault.Fault.{Fault}
 use Rattle.cb_base.specs.declared.fault.Fault.TheVariants.{Memory, WrongCount}
 use Rattle.cb_compact.specs.Slots.{Unfilled}
 use Rattle.cb_compact.specs.declared.partial.Filled.{Filled}
-use Rattle.cb_payload.specs.declared.block_transactions.BlockTransactions.{BlockTransactions}
-use Rattle.cb_rebuild.specs.Completing.{completed_of, judged_of}
-use Rattle.cb_rebuild.specs.Rebuilding.{block_with}
+use Rattle.cb_wire.specs.declared.block_transactions.BlockTransactions.{BlockTransactions}
+use Rattle.cb_compact.specs.Completing.{completed_of, judged_of}
+use Rattle.cb_compact.specs.Rebuilding.{block_with}
 use Rattle.cb_wire.specs.declared.message.Message.{Message}
 use Rattle.cb_wire.specs.declared.message.Message.TheVariants as messages
 use Rattle.cb_peer_state.specs.Receiving.{completed_by, ends, filled_by, txs_heard}

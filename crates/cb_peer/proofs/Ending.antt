@@ -1,7 +1,7 @@
 -- The end of an item, after its answer.
 use Rattle.std.proofs.Common.{◌≡◌, [], Option, ap}
-use Rattle.cb_journal.specs.declared.answer.Answer.{Answer}
-use Rattle.cb_journal.specs.declared.answer.Answer.TheVariants as answers
+use Rattle.cb_hall.specs.declared.answer.Answer.{Answer}
+use Rattle.cb_hall.specs.declared.answer.Answer.TheVariants as answers
 use Rattle.cb_wire.specs.declared.item.Item.{Item}
 use Rattle.cb_peer_state.specs.declared.session_state.SessionState.{SessionState}
 use Rattle.cb_peer_state.specs.declared.stage.Stage.{Stage}

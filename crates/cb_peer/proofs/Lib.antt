@@ -1,3 +1,3 @@
-mod Ending
 pub mod Completing
+mod Ending
 pub mod Lights

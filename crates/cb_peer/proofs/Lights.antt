@@ -7,17 +7,17 @@ use Rattle.cb_base.specs.declared.fault.Fault.{Fault}
 use Rattle.cb_base.specs.declared.fault.Fault.TheVariants as faults
 use Rattle.cb_base.specs.declared.hash.Hash256.{Hash256}
 use Rattle.cb_chain.specs.Entries.{block_hash}
-use Rattle.cb_journal.specs.declared.question.Question.TheVariants as questions
-use Rattle.cb_journal.specs.declared.question.Sought.{Sought}
-use Rattle.cb_payload.specs.declared.compact_block.HeaderAndShortIds.{HeaderAndShortIds}
+use Rattle.cb_hall.specs.declared.question.Question.TheVariants as questions
+use Rattle.cb_hall.specs.declared.question.Sought.{Sought}
+use Rattle.cb_wire.specs.declared.compact_block.HeaderAndShortIds.{HeaderAndShortIds}
 use Rattle.cb_state.specs.declared.accepting.Heads.{Heads}
 use Rattle.cb_state.specs.declared.serving.Piece.{Piece}
 use Rattle.cb_state.specs.declared.serving.Piece.TheVariants as piece
 use Rattle.cb_state.specs.declared.serving_places.Excerpt.{Excerpt}
 use Rattle.cb_state.specs.declared.serving_places.Excerpt.TheVariants as excerpts
-use Rattle.cb_talk.specs.Announcing.{announcing_block}
-use Rattle.cb_talk.specs.Inventory.{asking_headers}
-use Rattle.cb_talk.specs.Serving.{excerpt_told, sent, served, shorts}
+use Rattle.cb_peer_state.specs.Announcing.{announcing_block}
+use Rattle.cb_peer_state.specs.Inventory.{asking_headers}
+use Rattle.cb_peer_state.specs.Serving.{excerpt_told, sent, served, shorts}
 use Rattle.cb_wire.specs.declared.item.Item.{Item}
 use Rattle.cb_wire.specs.declared.message.Message.{Message}
 use Rattle.cb_wire.specs.declared.message.Message.TheVariants as messages

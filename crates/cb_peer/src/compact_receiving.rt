@@ -9,11 +9,10 @@ ghost use Rattle.cb_peer_state.specs.Session.{weighs_ready};
 ghost use Rattle.cb_peer_state.specs.Receiving.{in_ready, short_heard, txs_heard};
 
 use cb_base::Fault;
-use cb_compact::Filled;
-use cb_journal::{Question, Request};
-use cb_payload::{BlockTransactions, BlockTransactionsRequest, HeaderAndShortIds, HeaderList};
+use cb_compact::{Filled, check_places, complete};
+use cb_hall::{Question, Request};
 use cb_peer_state::{CloseReason, Reaction, SessionState, Subject};
-use cb_rebuild::{check_places, complete};
+use cb_wire::{BlockTransactions, BlockTransactionsRequest, HeaderAndShortIds, HeaderList};
 use std::alloc::Global;
 
 /// Handles `cmpctblock`: notes its block as the last heard of from the peer and asks the hall about

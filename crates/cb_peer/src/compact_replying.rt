@@ -10,16 +10,14 @@ ghost use Rattle.cb_peer_state.specs.Replying.{excerpt_answered, given_told, pai
 
 use cb_base::{Fault, Shared};
 use cb_block::Header;
-use cb_journal::{Question, Sought};
-use cb_payload::HeaderAndShortIds;
+use cb_compact::{Pairs, Rebuilt, ShortIds, rebuild};
+use cb_hall::{Question, Sought};
 use cb_peer_state::{
-    CloseReason, NextQuestion, Reaction, SessionState, Stage, is_orphan, one_message, push_some,
+    CloseReason, NextQuestion, Reaction, SessionState, Stage, asking_txs, is_orphan, one_message,
+    push_some, send_excerpt,
 };
-use cb_pool::{Pairs, ShortIds};
-use cb_rebuild::{Rebuilt, rebuild};
 use cb_state::{Excerpt, Heads, Taken};
-use cb_talk::{asking_txs, send_excerpt};
-use cb_wire::{Item, Message};
+use cb_wire::{HeaderAndShortIds, Item, Message};
 use std::alloc::Global;
 
 /// The compact block that an item brought, if it did.

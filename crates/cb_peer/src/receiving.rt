@@ -13,14 +13,14 @@ ghost use Rattle.cb_peer_state.specs.Receiving.{brought, by_compact, given_up, g
 use crate::compact_receiving::{ask_places, hear_short, hear_txs};
 use cb_base::{Fault, Hash256, Shared};
 use cb_block::{Block, Header, sound_of};
-use cb_fetch::Fetch;
-use cb_journal::{GivenBlock, Question, Request};
-use cb_payload::{CompactRelay, Entries, HeaderList, HeadersRequest, Inventory, Version};
+use cb_hall::{GivenBlock, Question, Request};
 use cb_peer_state::{
-    CloseReason, Reaction, SessionState, Settings, State, Subject, hash_of_last, one_message,
+    CloseReason, Fetch, Outgoing, Reaction, SessionState, Settings, State, Subject, hash_of_last,
+    one_message, our_version, wishes,
 };
-use cb_talk::{Outgoing, our_version, wishes};
-use cb_wire::{Item, Message};
+use cb_wire::{
+    CompactRelay, Entries, HeaderList, HeadersRequest, Inventory, Item, Message, Version,
+};
 use std::alloc::Global;
 
 /// The oldest protocol version that a peer may speak (own).

@@ -4,15 +4,15 @@ ghost use Rattle.std.specs.Prelude.{◌≡◌, [], ◌∷◌, ◌≤◌, None, O
 ghost use Rattle.std.specs.List.{list_any};
 ghost use Rattle.cb_base.specs.DoubleHash.{double_hash};
 ghost use Rattle.cb_chain.specs.Entries.{same};
-ghost use Rattle.cb_tx.specs.Text.{tx_text};
+ghost use Rattle.cb_block.specs.TxText.{tx_text};
 ghost use Rattle.cb_base.specs.declared.fault.Fault.TheVariants.{BadWork, Memory};
-ghost use Rattle.cb_talk.specs.Announcing.{telling};
-ghost use Rattle.cb_talk.specs.Inventory.{asking_for, asking_headers};
+ghost use Rattle.cb_peer_state.specs.Announcing.{telling};
+ghost use Rattle.cb_peer_state.specs.Inventory.{asking_for, asking_headers};
 ghost use Rattle.cb_wire.specs.declared.message.Message.TheVariants as messages;
 ghost use Rattle.cb_wire.specs.declared.item.Item.{Item};
 ghost use Rattle.cb_peer_state.specs.declared.stage.Stage.TheVariants as stages;
 ghost use Rattle.cb_peer_state.specs.declared.stage.Subject.{Subject};
-ghost use Rattle.cb_journal.specs.declared.answer.Answer.TheVariants as answers;
+ghost use Rattle.cb_hall.specs.declared.answer.Answer.TheVariants as answers;
 ghost use Rattle.cb_peer_state.specs.Outcomes.{IsLightOutcome, Makes, as_list};
 ghost use Rattle.cb_peer_state.specs.Session.{weighs_answer, weighs_at, weighs_child, weighs_txids};
 ghost use Rattle.cb_peer_state.specs.Receiving.{ends};
@@ -21,19 +21,15 @@ ghost use Rattle.cb_peer_state.specs.State.{unless_remembered};
 
 use crate::compact_replying::{answer_places, hear_given, hear_pairs, hear_short_heads, short_in};
 use cb_base::{Fault, Hash256, Shared};
-use cb_block::Header;
-use cb_journal::Answer;
-use cb_payload::{Entries, HeaderList, Inventory, Listed, Locator};
+use cb_block::{Header, Tx};
+use cb_hall::Answer;
 use cb_peer_state::{
-    CloseReason, Reaction, SessionState, Stage, hash_of_last, locator_of, one_message, push_some,
+    CloseReason, Outgoing, Reaction, SessionState, Stage, announce_block, announce_tip,
+    announce_txs, asking_for, asking_headers, hash_of_last, locator_of, one_message, push_some,
+    served, shorts, wish,
 };
 use cb_state::{Heads, Need, News, Pieces, Taken, Txids};
-use cb_talk::{
-    Outgoing, announce_block, announce_tip, announce_txs, asking_for, asking_headers, served,
-    shorts, wish,
-};
-use cb_tx::Tx;
-use cb_wire::{Item, Message};
+use cb_wire::{Entries, HeaderList, Inventory, Item, Listed, Locator, Message};
 use std::alloc::Global;
 
 /// The most headers in one message. After a full message there may be more.

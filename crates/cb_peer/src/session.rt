@@ -1,6 +1,6 @@
 ghost use Rattle.std.specs.Prelude.{◌≡◌, [], true, None, length, IfOk, IsOk, IsOkUnless, OnErr, is_some};
 ghost use Rattle.cb_base.specs.declared.fault.Fault.TheVariants.{Memory};
-ghost use Rattle.cb_fetch.specs.Fetching.{idle};
+ghost use Rattle.cb_peer_state.specs.Fetching.{idle};
 ghost use Rattle.cb_peer_state.specs.declared.state.CloseReason.TheVariants as reasons;
 ghost use Rattle.cb_peer_state.specs.Outcomes.{Answers};
 ghost use Rattle.cb_peer_state.specs.Session.{closes, is_light, openings, spares, step_of, takes_no_memory};
@@ -8,10 +8,11 @@ ghost use Rattle.cb_peer_state.specs.State.{is_fetching, opening, over};
 
 use crate::stepping::{arrive, end_of, hear_answer, probe, starve};
 use cb_base::{Fault, Hash256, Seed};
-use cb_fetch::Fetch;
-use cb_journal::Question;
-use cb_peer_state::{CloseReason, Event, Peer, SessionState, Settings, State, one_message};
-use cb_talk::{Outgoing, our_version};
+use cb_hall::Question;
+use cb_peer_state::{
+    CloseReason, Event, Fetch, Outgoing, Peer, SessionState, Settings, State, one_message,
+    our_version,
+};
 use std::alloc::Global;
 use std::marker::Model;
 
@@ -21,7 +22,6 @@ use std::marker::Model;
 /// Contracts see its settings, how far it is, what its peer told about itself, what the two
 /// announced to each other, the blocks that it downloads, what it keeps for compact blocks, and the
 /// item whose question is open.
-#[derive(Drop)]
 pub struct Session {
     kept: SessionState,
 }
@@ -34,21 +34,18 @@ impl Model for Session {
     ghost view = { λ session. session.kept };
 }
 
+impl Drop for Session {
+    fn drop(self) {
+        let Session { kept: _ } = self;
+    }
+}
+
 impl Session {
     /// A new session, and the messages that open it: our `version` if this node made the
-    /// connection, and none otherwise. The table of its wanted blocks has the fixed seed.
+    /// connection, and none otherwise. The table of its wanted blocks has this seed, which changes
+    /// no result.
     ///
     /// Fails only with `Fault::Memory`, and never for an inbound connection.
-    pub fn new(alloc: Global, settings: Settings) -> Result<(Session, Vec<Outgoing>), Fault>
-        ensures session { IfOk result (λ made. made.0 ≡ opening settings) }
-        ensures messages { IfOk result (λ made. made.1.items ≡ openings settings) }
-        ensures memory { IsOkUnless result Memory }
-        ensures unpaid { openings settings ≡ [] → IsOk result }
-    {
-        Session::with_seed(alloc, settings, Seed::fixed())
-    }
-
-    /// As `new`. The table of the session's wanted blocks has this seed, which changes no result.
     pub fn with_seed(
         alloc: Global,
         settings: Settings,

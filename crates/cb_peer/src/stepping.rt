@@ -2,7 +2,7 @@
 //! `receiving` and `replying`.
 ghost use Rattle.std.specs.Prelude.{◌≡◌, [], true, false, IfOk, IsOk, IsOkUnless, OnErr};
 ghost use Rattle.cb_base.specs.declared.fault.Fault.TheVariants.{Memory};
-ghost use Rattle.cb_journal.specs.declared.answer.Answer.TheVariants as answers;
+ghost use Rattle.cb_hall.specs.declared.answer.Answer.TheVariants as answers;
 ghost use Rattle.cb_peer_state.specs.declared.event.Event.TheVariants as events;
 ghost use Rattle.cb_peer_state.specs.declared.session_state.SessionState.{SessionState};
 ghost use Rattle.cb_peer_state.specs.declared.state.CloseReason.TheVariants as reasons;
@@ -14,13 +14,14 @@ ghost use Rattle.cb_peer_state.specs.Replying.{answered, replied};
 ghost use Rattle.cb_peer_state.specs.Session.{arrives, closes, for_item, is_light, open_step, probed, spares, told, weighs_at};
 ghost use Rattle.cb_peer_state.specs.State.{bare, over};
 
-use crate::{process, reply};
+use crate::receiving::process;
+use crate::replying::reply;
 use cb_base::{Fault, Shared};
-use cb_journal::{Answer, Question};
+use cb_hall::{Answer, Question};
 use cb_peer_state::{
-    CloseReason, Event, NextQuestion, Pending, Reaction, SessionState, Settings, Stage, State,
+    CloseReason, Event, NextQuestion, Outgoing, Pending, Reaction, SessionState, Settings, Stage,
+    State,
 };
-use cb_talk::Outgoing;
 use cb_wire::Item;
 use std::alloc::Global;
 

@@ -11,17 +11,17 @@ use Rattle.cb_compact.specs.Slots.{Unfilled}
 use Rattle.cb_compact.specs.declared.named_tx.Pair.{Pair}
 use Rattle.cb_compact.specs.declared.partial.Filled.{Filled}
 use Rattle.cb_compact.specs.declared.partial.Filled.TheVariants.{Sound, Wrong}
-use Rattle.cb_fetch.specs.Fetching.{asks_now}
-use Rattle.cb_journal.specs.declared.answer.Answer.{Answer}
-use Rattle.cb_journal.specs.declared.answer.Answer.TheVariants as answers
-use Rattle.cb_payload.specs.declared.block_transactions.BlockTransactions.{BlockTransactions}
-use Rattle.cb_payload.specs.declared.compact_block.HeaderAndShortIds.{HeaderAndShortIds}
-use Rattle.cb_rebuild.specs.Completing.{completed_of}
-use Rattle.cb_rebuild.specs.Places.{has_places}
-use Rattle.cb_rebuild.specs.Rebuilding.{rebuilt_of}
-use Rattle.cb_rebuild.specs.declared.rebuilding.Rebuilt.{Rebuilt}
-use Rattle.cb_rebuild.specs.declared.rebuilding.Rebuilt.TheVariants as rebuilts
-use Rattle.cb_talk.specs.Inventory.{asking_block, asking_txs}
+use Rattle.cb_peer_state.specs.Fetching.{asks_now}
+use Rattle.cb_hall.specs.declared.answer.Answer.{Answer}
+use Rattle.cb_hall.specs.declared.answer.Answer.TheVariants as answers
+use Rattle.cb_wire.specs.declared.block_transactions.BlockTransactions.{BlockTransactions}
+use Rattle.cb_wire.specs.declared.compact_block.HeaderAndShortIds.{HeaderAndShortIds}
+use Rattle.cb_compact.specs.Completing.{completed_of}
+use Rattle.cb_compact.specs.Places.{has_places}
+use Rattle.cb_compact.specs.Rebuilding.{rebuilt_of}
+use Rattle.cb_compact.specs.declared.rebuilding.Rebuilt.{Rebuilt}
+use Rattle.cb_compact.specs.declared.rebuilding.Rebuilt.TheVariants as rebuilts
+use Rattle.cb_peer_state.specs.Inventory.{asking_block, asking_txs}
 use Rattle.cb_wire.specs.declared.item.Item.{Item}
 use Rattle.cb_wire.specs.declared.item.Item.TheVariants.{Good}
 use Rattle.cb_wire.specs.declared.message.Message.{Message}

@@ -8,7 +8,7 @@ use Rattle.std.proofs.lemmas.List.Folds.{list_any-append}
 use Rattle.cb_base.specs.declared.hash.Hash256.{Hash256}
 use Rattle.cb_block.specs.declared.header.Header.{Header}
 use Rattle.cb_chain.specs.Entries.{block_hash}
-use Rattle.cb_talk.specs.Inventory.{asking_headers}
+use Rattle.cb_peer_state.specs.Inventory.{asking_headers}
 use Rattle.cb_wire.specs.declared.message.Message.{Message}
 use Rattle.cb_peer_state.specs.Laws.{asks_for_headers, but_headers}
 use Rattle.cb_peer_state.specs.Receiving.{Outcome, ends}

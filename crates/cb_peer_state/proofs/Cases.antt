@@ -4,8 +4,8 @@ use Rattle.std.specs.Prelude.{not}
 use Rattle.cb_block.specs.declared.block.Block.{Block}
 use Rattle.cb_chain.specs.Entries.{block_hash}
 use Rattle.cb_base.specs.declared.hash.Hash256.{Hash256}
-use Rattle.cb_fetch.specs.Fetching.{is_due}
-use Rattle.cb_journal.specs.declared.answer.Answer.{Answer}
+use Rattle.cb_peer_state.specs.Fetching.{is_due}
+use Rattle.cb_hall.specs.declared.answer.Answer.{Answer}
 use Rattle.cb_wire.specs.declared.message.Message.{Message}
 use Rattle.cb_peer_state.specs.declared.event.Event.{Event}
 use Rattle.cb_peer_state.specs.declared.event.Event.TheVariants as events

@@ -3,7 +3,7 @@ use Rattle.std.proofs.Common.{◌≡◌, ℕ, true, false, List, [], ◌∷◌, 
 use Rattle.std.specs.Prelude.{◌↔◌}
 use Rattle.cb_base.specs.DoubleHash.{double_hash}
 use Rattle.cb_base.specs.declared.hash.Hash256.{Hash256}
-use Rattle.cb_block.specs.Text.{header_text}
+use Rattle.cb_block.specs.BlockText.{header_text}
 use Rattle.cb_block.specs.declared.block.Block.{Block}
 use Rattle.cb_chain.specs.Entries.{block_hash, same}
 use Rattle.cb_chain.proofs.BlockIndexes.{same-refl}
@@ -14,19 +14,19 @@ use Rattle.cb_compact.specs.declared.named_tx.Pair.{Pair}
 use Rattle.cb_base.specs.declared.fault.Fault.{Fault}
 use Rattle.cb_compact.specs.declared.partial.Filled.{Filled}
 use Rattle.cb_compact.specs.declared.partial.Filled.TheVariants as filling
-use Rattle.cb_journal.specs.declared.answer.Answer.{Answer}
-use Rattle.cb_journal.specs.declared.answer.Answer.TheVariants as answers
-use Rattle.cb_payload.specs.declared.block_transactions.BlockTransactions.{BlockTransactions}
-use Rattle.cb_payload.specs.declared.block_transactions.BlockTransactionsRequest.{BlockTransactionsRequest}
-use Rattle.cb_payload.specs.declared.compact_block.HeaderAndShortIds.{HeaderAndShortIds}
-use Rattle.cb_rebuild.specs.Completing.{completed_of}
-use Rattle.cb_rebuild.specs.Honest.{IsHonestMessage, IsRebuiltTo}
-use Rattle.cb_rebuild.specs.Places.{has_places}
-use Rattle.cb_rebuild.specs.Rebuilding.{rebuilt_of}
-use Rattle.cb_rebuild.specs.declared.rebuilding.Rebuilt.{Rebuilt}
-use Rattle.cb_rebuild.specs.declared.rebuilding.Rebuilt.TheVariants.{Lacking, Sound, Useless}
+use Rattle.cb_hall.specs.declared.answer.Answer.{Answer}
+use Rattle.cb_hall.specs.declared.answer.Answer.TheVariants as answers
+use Rattle.cb_wire.specs.declared.block_transactions.BlockTransactions.{BlockTransactions}
+use Rattle.cb_wire.specs.declared.block_transactions.BlockTransactionsRequest.{BlockTransactionsRequest}
+use Rattle.cb_wire.specs.declared.compact_block.HeaderAndShortIds.{HeaderAndShortIds}
+use Rattle.cb_compact.specs.Completing.{completed_of}
+use Rattle.cb_compact.specs.HonestMessages.{IsHonestMessage, IsRebuiltTo}
+use Rattle.cb_compact.specs.Places.{has_places}
+use Rattle.cb_compact.specs.Rebuilding.{rebuilt_of}
+use Rattle.cb_compact.specs.declared.rebuilding.Rebuilt.{Rebuilt}
+use Rattle.cb_compact.specs.declared.rebuilding.Rebuilt.TheVariants.{Lacking, Sound, Useless}
 use Rattle.cb_state.specs.declared.accepting.Heads.{Heads}
-use Rattle.cb_talk.specs.Inventory.{asking_txs}
+use Rattle.cb_peer_state.specs.Inventory.{asking_txs}
 use Rattle.cb_wire.specs.declared.item.Item.{Item}
 use Rattle.cb_wire.specs.declared.item.Item.TheVariants.{Good}
 use Rattle.cb_wire.specs.declared.message.Message.TheVariants as messages

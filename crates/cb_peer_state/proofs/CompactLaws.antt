@@ -6,8 +6,8 @@ use Rattle.std.proofs.lemmas.List.Elements.{filter_map-append}
 use Rattle.std.proofs.Math.Nat.{mod-add-div, mod-add-mod}
 use Rattle.cb_chain.specs.Entries.{block_hash}
 use Rattle.cb_compact.specs.Slots.{AreDifferent, Unfilled, is_among}
-use Rattle.cb_journal.specs.declared.answer.Answer.{Answer}
-use Rattle.cb_talk.specs.Serving.{nonce_in, nonces_from, nonces_in}
+use Rattle.cb_hall.specs.declared.answer.Answer.{Answer}
+use Rattle.cb_peer_state.specs.Serving.{nonce_in, nonces_from, nonces_in}
 use Rattle.cb_wire.specs.declared.item.Item.{Item}
 use Rattle.cb_peer_state.specs.Compact.{Fate, Requests, Wishes, brings, sent_at}
 use Rattle.cb_peer_state.specs.Compact.Fate.{stays as still, ends as over_now, makes_way, comes}

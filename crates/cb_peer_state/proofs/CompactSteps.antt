@@ -1,8 +1,8 @@
 -- A step, by what it does with its event.
 use Rattle.std.proofs.Common.{◌≡◌, Bool, true, false, cond, List, [], Option, Some, None, refl}
 use Rattle.std.specs.Prelude.{not}
-use Rattle.cb_fetch.specs.Fetching.{is_due}
-use Rattle.cb_journal.specs.declared.answer.Answer.{Answer}
+use Rattle.cb_peer_state.specs.Fetching.{is_due}
+use Rattle.cb_hall.specs.declared.answer.Answer.{Answer}
 use Rattle.cb_wire.specs.declared.item.Item.{Item}
 use Rattle.cb_wire.specs.declared.message.Message.{Message}
 use Rattle.cb_peer_state.specs.declared.event.Event.{Event}

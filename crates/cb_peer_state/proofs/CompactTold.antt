@@ -14,22 +14,22 @@ use Rattle.cb_compact.specs.declared.named_tx.Pair.{Pair}
 use Rattle.cb_base.specs.declared.fault.Fault.{Fault}
 use Rattle.cb_compact.specs.declared.partial.Filled.{Filled}
 use Rattle.cb_compact.specs.declared.partial.Filled.TheVariants as filling
-use Rattle.cb_fetch.specs.Fetching.{FetchState, asks_now, fallen_back, has, with_flight, with_wanted}
-use Rattle.cb_fetch.proofs.Falling.{asked}
-use Rattle.cb_journal.specs.declared.answer.Answer.TheVariants as answers
-use Rattle.cb_journal.specs.declared.question.Question.TheVariants as questions
-use Rattle.cb_journal.specs.declared.question.Told.{Told}
-use Rattle.cb_payload.specs.declared.block_transactions.BlockTransactions.{BlockTransactions}
-use Rattle.cb_payload.specs.declared.compact_block.HeaderAndShortIds.{HeaderAndShortIds}
-use Rattle.cb_rebuild.specs.Completing.{completed_of}
-use Rattle.cb_rebuild.specs.Places.{has_places}
-use Rattle.cb_rebuild.specs.Rebuilding.{rebuilt_of}
-use Rattle.cb_rebuild.specs.declared.rebuilding.Rebuilt.{Rebuilt}
-use Rattle.cb_rebuild.specs.declared.rebuilding.Rebuilt.TheVariants.{Useless}
+use Rattle.cb_peer_state.specs.Fetching.{FetchState, asks_now, fallen_back, has, with_flight, with_wanted}
+use Rattle.cb_peer_state.proofs.Falling.{asked}
+use Rattle.cb_hall.specs.declared.answer.Answer.TheVariants as answers
+use Rattle.cb_hall.specs.declared.question.Question.TheVariants as questions
+use Rattle.cb_hall.specs.declared.question.ToldBefore.{ToldBefore}
+use Rattle.cb_wire.specs.declared.block_transactions.BlockTransactions.{BlockTransactions}
+use Rattle.cb_wire.specs.declared.compact_block.HeaderAndShortIds.{HeaderAndShortIds}
+use Rattle.cb_compact.specs.Completing.{completed_of}
+use Rattle.cb_compact.specs.Places.{has_places}
+use Rattle.cb_compact.specs.Rebuilding.{rebuilt_of}
+use Rattle.cb_compact.specs.declared.rebuilding.Rebuilt.{Rebuilt}
+use Rattle.cb_compact.specs.declared.rebuilding.Rebuilt.TheVariants.{Useless}
 use Rattle.cb_state.specs.declared.news.News.{News}
-use Rattle.cb_talk.specs.Announcing.{announcing, telling, tx_entry}
-use Rattle.cb_talk.specs.Greeting.{wish}
-use Rattle.cb_talk.specs.Inventory.{asking_block}
+use Rattle.cb_peer_state.specs.Announcing.{announcing, telling, tx_entry}
+use Rattle.cb_peer_state.specs.Greeting.{wish}
+use Rattle.cb_peer_state.specs.Inventory.{asking_block}
 use Rattle.cb_wire.specs.declared.item.Item.{Item}
 use Rattle.cb_wire.specs.declared.item.Item.TheVariants.{Good}
 use Rattle.cb_wire.specs.declared.message.Message.{Message}
@@ -168,7 +168,7 @@ source_in_no_form s news heard =
     step_none announces_block s news
     (λ item. news_none announces_block (freed s) item news (ap (λ (list : List Message). list_any announces_block list) (heard_untold (freed s) news heard)) no_block_told (λ high. refl))
 
-whole_at : (s : SessionState) (item : Option Item) (stage : Stage) (told : Told) → question_of s item stage ≡ questions.News told → told.whole ≡ s.peer.wants_high
+whole_at : (s : SessionState) (item : Option Item) (stage : Stage) (told : ToldBefore) → question_of s item stage ≡ questions.News told → told.whole ≡ s.peer.wants_high
 whole_at s item Admit told e = absurd cc
 whole_at s item (About subjects.Headers) told e = absurd cc
 whole_at s item (About subjects.Locator) told e = absurd cc
@@ -183,13 +183,13 @@ whole_at s item (Give block) told e = absurd cc
 whole_at s item Wanted told e = absurd cc
 whole_at s item Fresh told e =
     let is : record { tip = s.marks.tip; from = s.marks.next; whole = s.peer.wants_high } ≡ told = cc in
-    ap (λ (it : Told). it.whole) (sym is)
+    ap (λ (it : ToldBefore). it.whole) (sym is)
 
-whole_of_pending : (s : SessionState) (pending : Option Pending) (told : Told) → question_at s pending ≡ Some (questions.News told) → told.whole ≡ s.peer.wants_high
+whole_of_pending : (s : SessionState) (pending : Option Pending) (told : ToldBefore) → question_at s pending ≡ Some (questions.News told) → told.whole ≡ s.peer.wants_high
 whole_of_pending s None told e = absurd cc
 whole_of_pending s (Some pending) told e =
     let is : question_of s pending.item pending.stage ≡ questions.News told = cc in
     whole_at s pending.item pending.stage told is
 
-pub whole_if_wanted : (s : SessionState) (told : Told) → pending_question s ≡ Some (questions.News told) → told.whole ≡ s.peer.wants_high
+pub whole_if_wanted : (s : SessionState) (told : ToldBefore) → pending_question s ≡ Some (questions.News told) → told.whole ≡ s.peer.wants_high
 whole_if_wanted s told e = whole_of_pending s s.pending told e

@@ -9,22 +9,22 @@ use Rattle.cb_block.specs.declared.block.Block.{Block}
 use Rattle.cb_block.specs.declared.header.Header.{Header}
 use Rattle.cb_chain.specs.Entries.{same}
 use Rattle.cb_chain.proofs.BlockIndexes.{same-refl, same-true}
-use Rattle.cb_fetch.specs.Fetching.{IsFetch, blocks_in, has, is_due, requests_of, taken_on}
-use Rattle.cb_fetch.proofs.Limits.{within}
-use Rattle.cb_journal.specs.declared.answer.Answer.{Answer}
-use Rattle.cb_journal.specs.declared.answer.Answer.TheVariants as answers
-use Rattle.cb_journal.specs.declared.question.GivenBlock.{GivenBlock}
-use Rattle.cb_journal.specs.declared.question.Question.{Question}
-use Rattle.cb_journal.specs.declared.question.Question.TheVariants as questions
-use Rattle.cb_payload.specs.declared.inventory.Inventory.{Inventory}
-use Rattle.cb_payload.specs.declared.requests.CompactRelay.{CompactRelay}
-use Rattle.cb_payload.specs.declared.inventory.Inventory.TheVariants as entry
+use Rattle.cb_peer_state.specs.Fetching.{IsFetch, blocks_in, has, is_due, requests_of, taken_on}
+use Rattle.cb_peer_state.proofs.Limits.{within}
+use Rattle.cb_hall.specs.declared.answer.Answer.{Answer}
+use Rattle.cb_hall.specs.declared.answer.Answer.TheVariants as answers
+use Rattle.cb_hall.specs.declared.question.GivenBlock.{GivenBlock}
+use Rattle.cb_hall.specs.declared.question.Question.{Question}
+use Rattle.cb_hall.specs.declared.question.Question.TheVariants as questions
+use Rattle.cb_wire.specs.declared.inventory.Inventory.{Inventory}
+use Rattle.cb_wire.specs.declared.requests.CompactRelay.{CompactRelay}
+use Rattle.cb_wire.specs.declared.inventory.Inventory.TheVariants as entry
 use Rattle.cb_state.specs.declared.news.News.{News}
 use Rattle.cb_state.specs.declared.serving.Piece.{Piece}
 use Rattle.cb_state.specs.declared.serving.Piece.TheVariants as piece
-use Rattle.cb_talk.specs.Announcing.{announcing}
-use Rattle.cb_talk.specs.Inventory.{asking_block, asking_for}
-use Rattle.cb_talk.specs.Serving.{lacking_in, nonce_behind, not_found, sent, served, shorts}
+use Rattle.cb_peer_state.specs.Announcing.{announcing}
+use Rattle.cb_peer_state.specs.Inventory.{asking_block, asking_for}
+use Rattle.cb_peer_state.specs.Serving.{lacking_in, nonce_behind, not_found, sent, served, shorts}
 use Rattle.cb_wire.specs.declared.item.Item.{Item}
 use Rattle.cb_wire.specs.declared.message.Message.{Message}
 use Rattle.cb_wire.specs.declared.message.Message.TheVariants as messages

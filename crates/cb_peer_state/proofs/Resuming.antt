@@ -2,8 +2,8 @@
 use Rattle.std.proofs.Common.{◌≡◌, ◌≢◌, Bool, true, cond, List, [], ◌∷◌, ◌++◌, Option, Some, None, refl, sym, ap, ◌∙◌}
 use Rattle.std.specs.Prelude.{option_map}
 use Rattle.cb_base.specs.declared.hash.Hash256.{Hash256}
-use Rattle.cb_fetch.specs.Fetching.{wants_none}
-use Rattle.cb_talk.specs.Inventory.{asking_headers}
+use Rattle.cb_peer_state.specs.Fetching.{wants_none}
+use Rattle.cb_peer_state.specs.Inventory.{asking_headers}
 use Rattle.cb_wire.specs.declared.item.Item.{Item}
 use Rattle.cb_wire.specs.declared.message.Message.{Message}
 use Rattle.cb_peer_state.specs.declared.reaction.NextQuestion.{NextQuestion}

@@ -13,26 +13,26 @@ use Rattle.cb_compact.specs.Slots.{Unfilled}
 use Rattle.cb_compact.specs.declared.named_tx.Pair.{Pair}
 use Rattle.cb_compact.specs.declared.partial.Filled.{Filled}
 use Rattle.cb_compact.specs.declared.partial.Filled.TheVariants as filling
-use Rattle.cb_fetch.specs.Fetching.{FetchState, blocks_in, has, is_fetched, leaves_out, requests_of, taken_on, wanting_all, wants_none, with_wanted}
-use Rattle.cb_journal.specs.declared.answer.Answer.{Answer}
-use Rattle.cb_journal.specs.declared.answer.Answer.TheVariants as answers
-use Rattle.cb_payload.specs.declared.block_transactions.BlockTransactions.{BlockTransactions}
-use Rattle.cb_payload.specs.declared.compact_block.HeaderAndShortIds.{HeaderAndShortIds}
-use Rattle.cb_payload.specs.declared.inventory.Inventory.{Inventory}
-use Rattle.cb_payload.specs.declared.requests.CompactRelay.{CompactRelay}
-use Rattle.cb_payload.specs.declared.version.Version.{Version}
-use Rattle.cb_rebuild.specs.Completing.{completed_of}
-use Rattle.cb_rebuild.specs.Places.{has_places}
-use Rattle.cb_rebuild.specs.Rebuilding.{rebuilt_of}
-use Rattle.cb_rebuild.specs.declared.rebuilding.Rebuilt.{Rebuilt}
-use Rattle.cb_rebuild.specs.declared.rebuilding.Rebuilt.TheVariants as rebuilts
+use Rattle.cb_peer_state.specs.Fetching.{FetchState, blocks_in, has, is_fetched, leaves_out, requests_of, taken_on, wanting_all, wants_none, with_wanted}
+use Rattle.cb_hall.specs.declared.answer.Answer.{Answer}
+use Rattle.cb_hall.specs.declared.answer.Answer.TheVariants as answers
+use Rattle.cb_wire.specs.declared.block_transactions.BlockTransactions.{BlockTransactions}
+use Rattle.cb_wire.specs.declared.compact_block.HeaderAndShortIds.{HeaderAndShortIds}
+use Rattle.cb_wire.specs.declared.inventory.Inventory.{Inventory}
+use Rattle.cb_wire.specs.declared.requests.CompactRelay.{CompactRelay}
+use Rattle.cb_wire.specs.declared.version.Version.{Version}
+use Rattle.cb_compact.specs.Completing.{completed_of}
+use Rattle.cb_compact.specs.Places.{has_places}
+use Rattle.cb_compact.specs.Rebuilding.{rebuilt_of}
+use Rattle.cb_compact.specs.declared.rebuilding.Rebuilt.{Rebuilt}
+use Rattle.cb_compact.specs.declared.rebuilding.Rebuilt.TheVariants as rebuilts
 use Rattle.cb_state.specs.declared.accepting.Heads.{Heads}
 use Rattle.cb_state.specs.declared.serving_places.Excerpt.{Excerpt}
 use Rattle.cb_state.specs.declared.serving_places.Excerpt.TheVariants as excerpts
 use Rattle.cb_state.specs.declared.wanting.Need.{Need}
-use Rattle.cb_talk.specs.Announcing.{telling}
-use Rattle.cb_talk.specs.Inventory.{asking_for, asking_headers, asking_txs}
-use Rattle.cb_talk.specs.Serving.{excerpt_told, shorts}
+use Rattle.cb_peer_state.specs.Announcing.{telling}
+use Rattle.cb_peer_state.specs.Inventory.{asking_for, asking_headers, asking_txs}
+use Rattle.cb_peer_state.specs.Serving.{excerpt_told, shorts}
 use Rattle.cb_wire.specs.declared.item.Item.{Item}
 use Rattle.cb_wire.specs.declared.item.Item.TheVariants.{Good, Damaged, Bad}
 use Rattle.cb_wire.specs.declared.message.Message.{Message}
@@ -61,9 +61,9 @@ use Rattle.cb_peer_state.proofs.CompactHonest.{told_goes, waiting}
 use Rattle.cb_peer_state.proofs.CompactSteps.{end_session, told_by}
 use Rattle.cb_peer_state.proofs.Sending.{None_of, none_of_both}
 use Rattle.std.proofs.lemmas.Bool.{cases_Bool, eqb-true, ltb-false}
-use Rattle.cb_fetch.proofs.Falling.{last_there}
-use Rattle.cb_fetch.proofs.Rooms.{left_where_full}
-use Rattle.cb_fetch.specs.Fetching.{wanting}
+use Rattle.cb_peer_state.proofs.Falling.{last_there}
+use Rattle.cb_peer_state.proofs.Rooms.{left_where_full}
+use Rattle.cb_peer_state.specs.Fetching.{wanting}
 use Rattle.cb_state.specs.declared.accepting.Taken.{Taken}
 use Rattle.cb_peer_state.specs.Questions.{fits, question_of}
 use Rattle.cb_peer_state.specs.declared.stage.Subject.{Subject}

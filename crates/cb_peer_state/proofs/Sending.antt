@@ -14,23 +14,23 @@ use Rattle.cb_compact.specs.Slots.{Unfilled}
 use Rattle.cb_compact.specs.declared.named_tx.Pair.{Pair}
 use Rattle.cb_compact.specs.declared.partial.Filled.{Filled}
 use Rattle.cb_compact.specs.declared.partial.Filled.TheVariants.{Sound, Wrong}
-use Rattle.cb_fetch.specs.Fetching.{asks_now, blocks_in, requests_of, taken_on}
-use Rattle.cb_journal.specs.declared.answer.Answer.{Answer}
-use Rattle.cb_journal.specs.declared.answer.Answer.TheVariants as answers
-use Rattle.cb_payload.specs.declared.block_transactions.BlockTransactions.{BlockTransactions}
-use Rattle.cb_payload.specs.declared.block_transactions.BlockTransactionsRequest.{BlockTransactionsRequest}
-use Rattle.cb_payload.specs.declared.compact_block.HeaderAndShortIds.{HeaderAndShortIds}
-use Rattle.cb_payload.specs.declared.inventory.Inventory.{Inventory}
-use Rattle.cb_payload.specs.declared.inventory.Inventory.TheVariants as entry
-use Rattle.cb_payload.specs.declared.requests.CompactRelay.{CompactRelay}
-use Rattle.cb_payload.specs.declared.requests.HeadersRequest.{HeadersRequest}
-use Rattle.cb_payload.specs.declared.version.Version.{Version}
-use Rattle.cb_rebuild.specs.Completing.{completed_of}
-use Rattle.cb_rebuild.specs.Places.{has_places}
-use Rattle.cb_rebuild.specs.Rebuilding.{rebuilt_of}
-use Rattle.cb_rebuild.specs.Shortening.{shortened_of}
-use Rattle.cb_rebuild.specs.declared.rebuilding.Rebuilt.{Rebuilt}
-use Rattle.cb_rebuild.specs.declared.rebuilding.Rebuilt.TheVariants as rebuilts
+use Rattle.cb_peer_state.specs.Fetching.{asks_now, blocks_in, requests_of, taken_on}
+use Rattle.cb_hall.specs.declared.answer.Answer.{Answer}
+use Rattle.cb_hall.specs.declared.answer.Answer.TheVariants as answers
+use Rattle.cb_wire.specs.declared.block_transactions.BlockTransactions.{BlockTransactions}
+use Rattle.cb_wire.specs.declared.block_transactions.BlockTransactionsRequest.{BlockTransactionsRequest}
+use Rattle.cb_wire.specs.declared.compact_block.HeaderAndShortIds.{HeaderAndShortIds}
+use Rattle.cb_wire.specs.declared.inventory.Inventory.{Inventory}
+use Rattle.cb_wire.specs.declared.inventory.Inventory.TheVariants as entry
+use Rattle.cb_wire.specs.declared.requests.CompactRelay.{CompactRelay}
+use Rattle.cb_wire.specs.declared.requests.HeadersRequest.{HeadersRequest}
+use Rattle.cb_wire.specs.declared.version.Version.{Version}
+use Rattle.cb_compact.specs.Completing.{completed_of}
+use Rattle.cb_compact.specs.Places.{has_places}
+use Rattle.cb_compact.specs.Rebuilding.{rebuilt_of}
+use Rattle.cb_compact.specs.Shortening.{shortened_of}
+use Rattle.cb_compact.specs.declared.rebuilding.Rebuilt.{Rebuilt}
+use Rattle.cb_compact.specs.declared.rebuilding.Rebuilt.TheVariants as rebuilts
 use Rattle.cb_state.specs.declared.accepting.Heads.{Heads}
 use Rattle.cb_state.specs.declared.news.News.{News}
 use Rattle.cb_state.specs.declared.serving.Piece.{Piece}
@@ -38,11 +38,11 @@ use Rattle.cb_state.specs.declared.serving.Piece.TheVariants as piece
 use Rattle.cb_state.specs.declared.serving_places.Excerpt.{Excerpt}
 use Rattle.cb_state.specs.declared.serving_places.Excerpt.TheVariants as excerpts
 use Rattle.cb_state.specs.declared.wanting.Need.{Need}
-use Rattle.cb_talk.specs.Announcing.{announcing, telling}
-use Rattle.cb_talk.specs.Greeting.{wish, wishes}
-use Rattle.cb_talk.specs.Inventory.{asking_block, asking_for, asking_headers, asking_txs}
-use Rattle.cb_talk.specs.Serving.{excerpt_told, lacking_in, nonce_behind, not_found, sent, served, shorts}
-use Rattle.cb_tx.specs.declared.tx.Tx.{Tx}
+use Rattle.cb_peer_state.specs.Announcing.{announcing, telling}
+use Rattle.cb_peer_state.specs.Greeting.{wish, wishes}
+use Rattle.cb_peer_state.specs.Inventory.{asking_block, asking_for, asking_headers, asking_txs}
+use Rattle.cb_peer_state.specs.Serving.{excerpt_told, lacking_in, nonce_behind, not_found, sent, served, shorts}
+use Rattle.cb_block.specs.declared.tx.Tx.{Tx}
 use Rattle.cb_wire.specs.declared.item.Item.{Item}
 use Rattle.cb_wire.specs.declared.item.Item.TheVariants.{Good, Damaged, Bad}
 use Rattle.cb_wire.specs.declared.message.Message.{Message}

@@ -8,16 +8,16 @@ use Rattle.cb_compact.specs.Differences.{sums}
 use Rattle.cb_compact.specs.Honest.{AreUnserved}
 use Rattle.cb_compact.specs.Slots.{Unfilled, missing}
 use Rattle.cb_compact.specs.declared.named_tx.Pair.{Pair}
-use Rattle.cb_fetch.specs.Fetching.{has}
-use Rattle.cb_journal.specs.declared.answer.Answer.{Answer}
-use Rattle.cb_journal.specs.declared.answer.Answer.TheVariants as answers
-use Rattle.cb_journal.specs.declared.question.Question.{Question}
-use Rattle.cb_journal.specs.declared.question.Question.TheVariants as questions
-use Rattle.cb_payload.specs.declared.block_transactions.BlockTransactions.{BlockTransactions}
-use Rattle.cb_payload.specs.declared.block_transactions.BlockTransactionsRequest.{BlockTransactionsRequest}
-use Rattle.cb_payload.specs.declared.compact_block.HeaderAndShortIds.{HeaderAndShortIds}
-use Rattle.cb_payload.specs.declared.inventory.Inventory.TheVariants as entry
-use Rattle.cb_rebuild.specs.Places.{has_places}
+use Rattle.cb_peer_state.specs.Fetching.{has}
+use Rattle.cb_hall.specs.declared.answer.Answer.{Answer}
+use Rattle.cb_hall.specs.declared.answer.Answer.TheVariants as answers
+use Rattle.cb_hall.specs.declared.question.Question.{Question}
+use Rattle.cb_hall.specs.declared.question.Question.TheVariants as questions
+use Rattle.cb_wire.specs.declared.block_transactions.BlockTransactions.{BlockTransactions}
+use Rattle.cb_wire.specs.declared.block_transactions.BlockTransactionsRequest.{BlockTransactionsRequest}
+use Rattle.cb_wire.specs.declared.compact_block.HeaderAndShortIds.{HeaderAndShortIds}
+use Rattle.cb_wire.specs.declared.inventory.Inventory.TheVariants as entry
+use Rattle.cb_compact.specs.Places.{has_places}
 use Rattle.cb_state.specs.declared.accepting.Heads.{Heads}
 use Rattle.cb_wire.specs.declared.item.Item.{Item}
 use Rattle.cb_wire.specs.declared.item.Item.TheVariants.{Good}

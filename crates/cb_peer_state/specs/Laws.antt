@@ -4,11 +4,11 @@ use Rattle.std.specs.List.{list_any}
 use Rattle.cb_base.specs.declared.hash.Hash256.{Hash256}
 use Rattle.cb_chain.specs.Entries.{block_hash, same}
 use Rattle.cb_compact.specs.Slots.{Unfilled}
-use Rattle.cb_journal.specs.declared.answer.Answer.{Answer}
-use Rattle.cb_journal.specs.declared.answer.Answer.TheVariants.{Following, Go, Pairs}
-use Rattle.cb_payload.specs.declared.compact_block.HeaderAndShortIds.{HeaderAndShortIds}
-use Rattle.cb_payload.specs.declared.inventory.Inventory.{Inventory}
-use Rattle.cb_payload.specs.declared.inventory.Inventory.TheVariants as entry
+use Rattle.cb_hall.specs.declared.answer.Answer.{Answer}
+use Rattle.cb_hall.specs.declared.answer.Answer.TheVariants.{Following, Go, Pairs}
+use Rattle.cb_wire.specs.declared.compact_block.HeaderAndShortIds.{HeaderAndShortIds}
+use Rattle.cb_wire.specs.declared.inventory.Inventory.{Inventory}
+use Rattle.cb_wire.specs.declared.inventory.Inventory.TheVariants as entry
 use Rattle.cb_wire.specs.declared.item.Item.{Item}
 use Rattle.cb_wire.specs.declared.item.Item.TheVariants.{Good}
 use Rattle.cb_wire.specs.declared.message.Message.{Message}

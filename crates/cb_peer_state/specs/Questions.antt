@@ -5,18 +5,18 @@ use Rattle.cb_base.specs.declared.hash.Hash256.{Hash256}
 use Rattle.cb_block.specs.declared.block.Block.{Block}
 use Rattle.cb_block.specs.declared.header.Header.{Header}
 use Rattle.cb_block.specs.Genesis.{genesis_block}
-use Rattle.cb_fetch.specs.Fetching.{as_blocks}
-use Rattle.cb_journal.specs.declared.answer.Answer.{Answer}
-use Rattle.cb_journal.specs.declared.answer.Answer.TheVariants as answers
-use Rattle.cb_journal.specs.declared.question.Question.{Question}
-use Rattle.cb_journal.specs.declared.question.Sought.{Sought}
-use Rattle.cb_payload.specs.declared.block_transactions.BlockTransactionsRequest.{BlockTransactionsRequest}
-use Rattle.cb_payload.specs.declared.compact_block.HeaderAndShortIds.{HeaderAndShortIds}
-use Rattle.cb_journal.specs.declared.question.Question.TheVariants as questions
-use Rattle.cb_journal.specs.declared.question.Request.TheVariants.{Items, After, Places}
-use Rattle.cb_payload.specs.declared.inventory.Inventory.{Inventory}
-use Rattle.cb_payload.specs.declared.inventory.Inventory.TheVariants as entry
-use Rattle.cb_tx.specs.declared.tx.Tx.{Tx}
+use Rattle.cb_peer_state.specs.Fetching.{as_blocks}
+use Rattle.cb_hall.specs.declared.answer.Answer.{Answer}
+use Rattle.cb_hall.specs.declared.answer.Answer.TheVariants as answers
+use Rattle.cb_hall.specs.declared.question.Question.{Question}
+use Rattle.cb_hall.specs.declared.question.Sought.{Sought}
+use Rattle.cb_wire.specs.declared.block_transactions.BlockTransactionsRequest.{BlockTransactionsRequest}
+use Rattle.cb_wire.specs.declared.compact_block.HeaderAndShortIds.{HeaderAndShortIds}
+use Rattle.cb_hall.specs.declared.question.Question.TheVariants as questions
+use Rattle.cb_hall.specs.declared.question.Request.TheVariants.{Items, After, Places}
+use Rattle.cb_wire.specs.declared.inventory.Inventory.{Inventory}
+use Rattle.cb_wire.specs.declared.inventory.Inventory.TheVariants as entry
+use Rattle.cb_block.specs.declared.tx.Tx.{Tx}
 use Rattle.cb_wire.specs.declared.item.Item.{Item}
 use Rattle.cb_wire.specs.declared.item.Item.TheVariants.{Good}
 use Rattle.cb_wire.specs.declared.message.Message.TheVariants as messages

@@ -4,10 +4,10 @@ use Rattle.std.specs.Prelude.{◌≡◌, true, false, List, [], ◌∷◌, filte
 use Rattle.std.specs.List.{list_any}
 use Rattle.cb_base.specs.declared.hash.Hash256.{Hash256}
 use Rattle.cb_block.specs.declared.header.Header.{Header}
-use Rattle.cb_fetch.specs.Fetching.{has, is_fetched, wants_none}
-use Rattle.cb_journal.specs.declared.answer.Answer.TheVariants as answers
+use Rattle.cb_peer_state.specs.Fetching.{has, is_fetched, wants_none}
+use Rattle.cb_hall.specs.declared.answer.Answer.TheVariants as answers
 use Rattle.cb_state.specs.declared.wanting.Need.{Need}
-use Rattle.cb_talk.specs.Inventory.{asking_headers}
+use Rattle.cb_peer_state.specs.Inventory.{asking_headers}
 use Rattle.cb_wire.specs.declared.message.Message.{Message}
 use Rattle.cb_peer_state.specs.declared.event.Event.{Event}
 use Rattle.cb_peer_state.specs.declared.event.Event.TheVariants as events

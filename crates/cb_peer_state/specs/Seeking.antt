@@ -4,10 +4,10 @@
 use Rattle.std.specs.Prelude.{◌≡◌, Bool, true, false, [], Option, Some, None}
 use Rattle.std.specs.List.{list_any}
 use Rattle.cb_block.specs.declared.header.Header.{Header}
-use Rattle.cb_journal.specs.declared.answer.Answer.{Answer}
-use Rattle.cb_journal.specs.declared.answer.Answer.TheVariants as answers
-use Rattle.cb_payload.specs.declared.inventory.Inventory.{Inventory}
-use Rattle.cb_payload.specs.declared.inventory.Inventory.TheVariants as entry
+use Rattle.cb_hall.specs.declared.answer.Answer.{Answer}
+use Rattle.cb_hall.specs.declared.answer.Answer.TheVariants as answers
+use Rattle.cb_wire.specs.declared.inventory.Inventory.{Inventory}
+use Rattle.cb_wire.specs.declared.inventory.Inventory.TheVariants as entry
 use Rattle.cb_state.specs.declared.accepting.Heads.{Heads}
 use Rattle.cb_wire.specs.declared.item.Item.{Item}
 use Rattle.cb_wire.specs.declared.item.Item.TheVariants.{Good}

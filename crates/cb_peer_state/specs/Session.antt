@@ -6,16 +6,16 @@ use Rattle.cb_base.specs.declared.hash.Hash256.{Hash256}
 use Rattle.cb_base.specs.declared.fault.Fault.{Fault}
 use Rattle.cb_block.specs.Decision.{is_hashed}
 use Rattle.cb_block.specs.declared.header.Header.{Header}
-use Rattle.cb_payload.specs.declared.compact_block.HeaderAndShortIds.{HeaderAndShortIds}
+use Rattle.cb_wire.specs.declared.compact_block.HeaderAndShortIds.{HeaderAndShortIds}
 use Rattle.cb_wire.specs.declared.item.Item.{Item}
 use Rattle.cb_wire.specs.declared.message.Message.{Message}
 use Rattle.cb_wire.specs.declared.item.Item.TheVariants.{Good}
 use Rattle.cb_wire.specs.declared.message.Message.TheVariants as messages
-use Rattle.cb_journal.specs.declared.answer.Answer.{Answer}
-use Rattle.cb_journal.specs.declared.answer.Answer.TheVariants as answers
-use Rattle.cb_journal.specs.declared.question.Question.{Question}
-use Rattle.cb_journal.specs.declared.question.Question.TheVariants as questions
-use Rattle.cb_talk.specs.Greeting.{our_version}
+use Rattle.cb_hall.specs.declared.answer.Answer.{Answer}
+use Rattle.cb_hall.specs.declared.answer.Answer.TheVariants as answers
+use Rattle.cb_hall.specs.declared.question.Question.{Question}
+use Rattle.cb_hall.specs.declared.question.Question.TheVariants as questions
+use Rattle.cb_peer_state.specs.Greeting.{our_version}
 use Rattle.cb_peer_state.specs.declared.stage.Stage.{Stage}
 use Rattle.cb_peer_state.specs.declared.stage.Stage.TheVariants.{Admit, About, Fresh, Give, Match}
 use Rattle.cb_peer_state.specs.declared.event.Event.{Event}

@@ -1,10 +1,10 @@
 -- What a session keeps about its peer.
 use Rattle.std.specs.Prelude.{ℕ, ◌+◌, ◌%◌, ◌^◌, ◌==◌, ◌&&◌, ◌||◌, not, pos, Bool, true, false, List, [], codes, length, Option, None, Some, is_some, if◌then◌else◌}
 use Rattle.cb_base.specs.declared.hash.Hash256.{Hash256}
-use Rattle.cb_tx.specs.declared.tx.Tx.{Tx}
+use Rattle.cb_block.specs.declared.tx.Tx.{Tx}
 use Rattle.cb_chain.specs.Entries.{block_hash, same}
 use Rattle.cb_compact.specs.Slots.{Unfilled, missing}
-use Rattle.cb_fetch.specs.Fetching.{FetchState, fallen_back, idle, is_fetched, landed, leaves_out, wanting, wanting_all, wants_none}
+use Rattle.cb_peer_state.specs.Fetching.{FetchState, fallen_back, idle, is_fetched, landed, leaves_out, wanting, wanting_all, wants_none}
 use Rattle.cb_wire.specs.declared.message.Message.{Message}
 use Rattle.cb_peer_state.specs.declared.compact.CompactState.{CompactState}
 use Rattle.cb_peer_state.specs.declared.session_state.SessionState.{SessionState}

@@ -7,7 +7,6 @@ use cb_compact::Partial;
 use std::alloc::Global;
 
 /// What a session keeps for compact blocks (BIP 152).
-#[derive(Drop)]
 pub struct CompactState {
     /// The block that is being rebuilt, if there is one: its missing transactions were requested.
     pub partial: Option<Partial>,
@@ -15,6 +14,16 @@ pub struct CompactState {
     pub made: u64,
     /// Whether the peer was last asked to announce blocks as compact blocks (`sendcmpct`).
     pub asked_high: bool,
+}
+
+impl Drop for CompactState {
+    fn drop(self) {
+        let CompactState {
+            partial: _,
+            made: _,
+            asked_high: _,
+        } = self;
+    }
 }
 
 impl CompactState {

@@ -8,20 +8,20 @@ ghost use Rattle.cb_compact.specs.Honest.{AreOwn};
 ghost use Rattle.cb_compact.specs.Slots.{AreDifferent, Unfilled};
 ghost use Rattle.cb_compact.specs.declared.named_tx.Pair.{Pair};
 ghost use Rattle.cb_compact.specs.declared.partial.Filled.TheVariants.{Wrong};
-ghost use Rattle.cb_journal.specs.declared.answer.Answer.{Answer};
-ghost use Rattle.cb_journal.specs.declared.answer.Answer.TheVariants as answers;
-ghost use Rattle.cb_journal.specs.declared.question.Question.TheVariants as questions;
-ghost use Rattle.cb_journal.specs.declared.question.Told.{Told};
-ghost use Rattle.cb_payload.specs.declared.block_transactions.BlockTransactions.{BlockTransactions};
-ghost use Rattle.cb_payload.specs.declared.compact_block.HeaderAndShortIds.{HeaderAndShortIds};
-ghost use Rattle.cb_rebuild.specs.Completing.{completed_of};
-ghost use Rattle.cb_rebuild.specs.Honest.{IsHonestMessage};
-ghost use Rattle.cb_rebuild.specs.Places.{has_places};
-ghost use Rattle.cb_rebuild.specs.Rebuilding.{rebuilt_of};
-ghost use Rattle.cb_rebuild.specs.declared.rebuilding.Rebuilt.TheVariants.{Useless};
+ghost use Rattle.cb_hall.specs.declared.answer.Answer.{Answer};
+ghost use Rattle.cb_hall.specs.declared.answer.Answer.TheVariants as answers;
+ghost use Rattle.cb_hall.specs.declared.question.Question.TheVariants as questions;
+ghost use Rattle.cb_hall.specs.declared.question.ToldBefore.{ToldBefore};
+ghost use Rattle.cb_wire.specs.declared.block_transactions.BlockTransactions.{BlockTransactions};
+ghost use Rattle.cb_wire.specs.declared.compact_block.HeaderAndShortIds.{HeaderAndShortIds};
+ghost use Rattle.cb_compact.specs.Completing.{completed_of};
+ghost use Rattle.cb_compact.specs.HonestMessages.{IsHonestMessage};
+ghost use Rattle.cb_compact.specs.Places.{has_places};
+ghost use Rattle.cb_compact.specs.Rebuilding.{rebuilt_of};
+ghost use Rattle.cb_compact.specs.declared.rebuilding.Rebuilt.TheVariants.{Useless};
 ghost use Rattle.cb_state.specs.declared.accepting.Heads.{Heads};
 ghost use Rattle.cb_state.specs.declared.news.News.{News};
-ghost use Rattle.cb_talk.specs.Serving.{nonces_from, nonces_in};
+ghost use Rattle.cb_peer_state.specs.Serving.{nonces_from, nonces_in};
 ghost use Rattle.cb_wire.specs.declared.item.Item.TheVariants.{Good};
 ghost use Rattle.cb_wire.specs.declared.message.Message.TheVariants as messages;
 ghost use Rattle.cb_peer_state.specs.Compact.{Fate, IsAskedWhole, LeadsTo, Requests, Wishes, announces_block, is_compact, is_reason, is_short, matched, sent_at, txs_come};
@@ -34,7 +34,7 @@ ghost use Rattle.cb_peer_state.specs.Questions.{is_nil, pending_question};
 ghost use Rattle.cb_peer_state.specs.Session.{pending_item, step_of};
 ghost use Rattle.cb_peer_state.specs.State.{is_closed, is_ready, next_nonce};
 
-use cb_rebuild::{an_honest_message_is_rebuilt, what_lacks_is_asked_for};
+use cb_compact::{an_honest_message_is_rebuilt, what_lacks_is_asked_for};
 
 /// A compact block of an honest sender (BIP 152) is rebuilt. If the hall has all of its
 /// transactions it is given that very block. Otherwise exactly those that nothing serves are
@@ -101,7 +101,7 @@ pub fn a_fallback_asks_for_the_whole_block()
 pub fn compact_blocks_are_announced_where_asked_for()
     ensures given { (s : SessionState) (news : News) → news.block ≡ None →
         list_any is_compact (step_of s (events.Told (answers.News news))).messages ≡ false }
-    ensures asked { (s : SessionState) (told : Told) →
+    ensures asked { (s : SessionState) (told : ToldBefore) →
         pending_question s ≡ Some (questions.News told) → told.whole ≡ s.peer.wants_high }
     ensures heard { (s : SessionState) (news : News) → s.marks.heard ≡ Some news.tip →
         list_any announces_block (step_of s (events.Told (answers.News news))).messages ≡ false }

@@ -2,7 +2,7 @@ ghost use Rattle.std.specs.Prelude.{◌≡◌, ◌≤◌, ◌^◌, ◌-◌, ◌*
 ghost use Rattle.cb_peer_state.specs.Event.{answer_entries, excerpt_entries, held_by, payload_of};
 
 use cb_base::{Fault, Shared};
-use cb_journal::Answer;
+use cb_hall::Answer;
 use cb_pool::MOST_TXS;
 use cb_state::Excerpt;
 use cb_wire::Item;

@@ -5,7 +5,7 @@ ghost use Rattle.cb_peer_state.specs.declared.session_state.SessionState.{Sessio
 
 use crate::stage::{Stage, Subject};
 use cb_base::{Fault, Shared};
-use cb_journal::Answer;
+use cb_hall::Answer;
 use cb_wire::Item;
 
 /// The item or tick that waits for the hall's answer to the open question. The hall is what Bitcoin

@@ -5,12 +5,12 @@ ghost use Rattle.cb_peer_state.specs.declared.stage.Stage.TheVariants as stages;
 ghost use Rattle.cb_peer_state.specs.Outcomes.{as_list};
 ghost use Rattle.cb_peer_state.specs.Receiving.{last_hash};
 
+use crate::outgoing::Outgoing;
 use crate::stage::{Stage, Subject};
 use cb_base::{Fault, Hash256};
 use cb_block::Header;
-use cb_journal::Question;
-use cb_payload::Locator;
-use cb_talk::Outgoing;
+use cb_hall::Question;
+use cb_wire::Locator;
 use std::alloc::Global;
 
 /// The next question to the hall, and how far the session is with the item then.

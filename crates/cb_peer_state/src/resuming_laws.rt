@@ -3,8 +3,8 @@
 ghost use Rattle.std.specs.Prelude.{◌≡◌, ◌∷◌, true, false, List, None, Option, Some};
 ghost use Rattle.cb_base.specs.declared.hash.Hash256.{Hash256};
 ghost use Rattle.cb_block.specs.declared.header.Header.{Header};
-ghost use Rattle.cb_fetch.specs.Fetching.{has, wants_none};
-ghost use Rattle.cb_journal.specs.declared.answer.Answer.TheVariants as answers;
+ghost use Rattle.cb_peer_state.specs.Fetching.{has, wants_none};
+ghost use Rattle.cb_hall.specs.declared.answer.Answer.TheVariants as answers;
 ghost use Rattle.cb_state.specs.declared.accepting.Heads.{Heads};
 ghost use Rattle.cb_wire.specs.declared.item.Item.TheVariants.{Good};
 ghost use Rattle.cb_wire.specs.declared.message.Message.TheVariants as messages;

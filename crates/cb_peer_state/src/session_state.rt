@@ -1,9 +1,9 @@
 ghost use Rattle.std.specs.Prelude.{◌≡◌, [], ◌∷◌, true, false, None, Option, IfOk, IsOk, IsOkUnless, OnErr, OnOk, option_map};
 ghost use Rattle.cb_base.specs.declared.fault.Fault.TheVariants.{Memory};
-ghost use Rattle.cb_fetch.specs.Fetching.{asks_now};
+ghost use Rattle.cb_peer_state.specs.Fetching.{asks_now};
 ghost use Rattle.cb_wire.specs.declared.item.Item.{Item};
 ghost use Rattle.cb_wire.specs.declared.message.Message.TheVariants as messages;
-ghost use Rattle.cb_journal.specs.declared.question.Question.TheVariants as questions;
+ghost use Rattle.cb_hall.specs.declared.question.Question.TheVariants as questions;
 ghost use Rattle.cb_peer_state.specs.declared.stage.Stage.TheVariants as stages;
 ghost use Rattle.cb_peer_state.specs.Outcomes.{Makes, is_light_stage};
 ghost use Rattle.cb_peer_state.specs.Receiving.{Outcome, ends, falls_back, gives};
@@ -11,6 +11,9 @@ ghost use Rattle.cb_peer_state.specs.Replying.{asks_news, resuming};
 ghost use Rattle.cb_peer_state.specs.State.{bare, next_nonce, next_ping, over, remembers, with_fallen, with_lacking, with_made, with_probe, with_unknown};
 
 use crate::compact::CompactState;
+use crate::fetch::Fetch;
+use crate::inventory::{asking_block, asking_headers};
+use crate::outgoing::Outgoing;
 use crate::pending::Pending;
 use crate::reaction::{NextQuestion, Reaction, locator_of, one_message};
 use crate::settings::Settings;
@@ -18,9 +21,7 @@ use crate::stage::Stage;
 use crate::state::{CloseReason, Marks, Peer, State};
 use cb_base::{Fault, Hash256};
 use cb_block::SoundBlock;
-use cb_fetch::Fetch;
-use cb_journal::{GivenBlock, Question, Told};
-use cb_talk::{Outgoing, asking_block, asking_headers};
+use cb_hall::{GivenBlock, Question, ToldBefore};
 use cb_wire::Message;
 use std::alloc::Global;
 
@@ -41,7 +42,6 @@ const UNMARKED: Marks = Marks {
 };
 
 /// What a session keeps.
-#[derive(Drop)]
 pub struct SessionState {
     /// Its settings.
     pub settings: Settings,
@@ -64,6 +64,23 @@ pub struct SessionState {
     pub probes: u64,
     /// The item or tick whose question is open, if there is one.
     pub pending: Option<Pending>,
+}
+
+impl Drop for SessionState {
+    fn drop(self) {
+        let SessionState {
+            settings: _,
+            state: _,
+            peer: _,
+            marks: _,
+            fetch: _,
+            resume_from: _,
+            unknown: _,
+            compact: _,
+            probes: _,
+            pending: _,
+        } = self;
+    }
 }
 
 impl SessionState {
@@ -141,7 +158,7 @@ impl SessionState {
     {
         NextQuestion {
             stage: Stage::Fresh,
-            question: Question::News(Told {
+            question: Question::News(ToldBefore {
                 tip: self.marks.tip,
                 from: self.marks.next,
                 whole: self.peer.wants_high,

@@ -8,12 +8,13 @@ ghost use Rattle.cb_peer_state.specs.Replying.{is_orphan, orphaned, search, seek
 ghost use Rattle.cb_peer_state.specs.Session.{weighs_child};
 ghost use Rattle.cb_peer_state.specs.State.{awaits, may_seek, seeking, with_child};
 
+use crate::inventory::asking_headers;
+use crate::outgoing::Outgoing;
 use crate::reaction::{Reaction, one_message};
 use crate::session_state::SessionState;
 use cb_base::{Fault, Hash256};
 use cb_block::Header;
-use cb_payload::Locator;
-use cb_talk::{Outgoing, asking_headers};
+use cb_wire::Locator;
 use std::alloc::Global;
 
 impl SessionState {

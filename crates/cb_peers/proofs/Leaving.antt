@@ -3,17 +3,17 @@ use Rattle.std.proofs.Common.{◌≡◌, ℕ, ◌+◌, Bool, true, false, List, 
 use Rattle.std.specs.List.{flat_map}
 use Rattle.std.proofs.lemmas.List.{append-nil, append_assoc, append_cancel_left, length-append, take-append-drop}
 use Rattle.std.proofs.lemmas.Grind.{flat_map-append}
-use Rattle.cb_inbox.specs.declared.queued.Queued.{Queued}
-use Rattle.cb_inbox.specs.declared.queued.Queued.TheVariants as queued
-use Rattle.cb_inbox.specs.Queued.{has_ended}
-use Rattle.cb_inbox.specs.Seat.{SeatState}
+use Rattle.cb_crew.specs.declared.queued.Queued.{Queued}
+use Rattle.cb_crew.specs.declared.queued.Queued.TheVariants as queued
+use Rattle.cb_crew.specs.Queued.{has_ended}
+use Rattle.cb_crew.specs.Seat.{SeatState}
 use Rattle.cb_crew.specs.declared.reader_side.ReaderSide.{ReaderSide}
 use Rattle.cb_crew.specs.declared.reader_side.ReaderSide.TheVariants as side
 use Rattle.cb_crew.specs.Work.{brought_by, openings_of}
 use Rattle.cb_base.specs.declared.read_end.ReadEnd.{ReadEnd}
-use Rattle.cb_reader.specs.declared.input.Input.{Input}
-use Rattle.cb_reader.specs.Putting.{SeatNow}
-use Rattle.cb_reader.specs.Reading.{Reads}
+use Rattle.cb_session.specs.declared.input.Input.{Input}
+use Rattle.cb_session.specs.Putting.{SeatNow}
+use Rattle.cb_session.specs.Reading.{Reads}
 use Rattle.cb_service.specs.Service.{HasEnded, queued_by}
 use Rattle.cb_peers.specs.Seat.{IsSameSeat, SeatView, before_in, input_in, is_ended, marks_of, put_in}
 use Rattle.cb_peers.specs.Reading.{HasRead, opened}

@@ -3,9 +3,9 @@ use Rattle.std.proofs.Common.{◌≡◌, ◌≤◌, Bool, [], ◌∷◌, ◌++�
 use Rattle.std.specs.List.{flat_map}
 use Rattle.std.proofs.lemmas.List.{append-nil, drop-append-le, take-append-le, length-append}
 use Rattle.std.proofs.lemmas.Grind.{flat_map-append}
-use Rattle.cb_inbox.specs.declared.queued.Queued.{Queued}
+use Rattle.cb_crew.specs.declared.queued.Queued.{Queued}
 use Rattle.cb_crew.specs.Work.{brought_by, openings_of}
-use Rattle.cb_reader.specs.declared.input.Input.{Input}
+use Rattle.cb_session.specs.declared.input.Input.{Input}
 use Rattle.cb_peers.specs.Seat.{HasTaken, SeatView, input_in, is_ended, marks_of}
 
 -- one more mark, which opens nothing

@@ -4,7 +4,7 @@ use Rattle.std.specs.Prelude.{◌≢◌, Contains}
 use Rattle.std.specs.List.{AllZip, fold, list_any}
 use Rattle.std.proofs.lemmas.List.Elements.{All-head, All-tail, All-weaker}
 use Rattle.cb_base.specs.declared.fault.Fault.{Fault}
-use Rattle.cb_sched.specs.Laws.{IsBeginning}
+use Rattle.cb_crew.specs.Laws.{IsBeginning}
 use Rattle.cb_hall.specs.Badge.{BadgeState}
 use Rattle.cb_hall.specs.Histories.{Reply}
 use Rattle.cb_wire.specs.Stream.{texts}
@@ -29,8 +29,8 @@ use Rattle.cb_crew.specs.Crew.{CrewState, all_queued}
 use Rattle.cb_crew.specs.Desk.{DeskState, KeepsWorks, first_label}
 use Rattle.cb_crew.specs.Headline.{InOrder, IsFinished, IsSettled, NothingAfterEnd, works_of}
 use Rattle.cb_crew.specs.Work.{IsKeptOrLetGo, connections_of}
-use Rattle.cb_reader.specs.declared.input.Input.{Input}
-use Rattle.cb_reader.specs.declared.input.Input.TheVariants as inputs
+use Rattle.cb_session.specs.declared.input.Input.{Input}
+use Rattle.cb_session.specs.declared.input.Input.TheVariants as inputs
 use Rattle.cb_work.specs.PeerWork.{WasGiven, WorkState, events_of, is_over, was_starved}
 use Rattle.cb_peers.specs.Headline.{IsHeadline, IsSameOrEmptied, KeepsTraces, ServesConnection, ServesPeer, ServesSide, peer_label}
 

@@ -3,10 +3,10 @@ use Rattle.std.proofs.Common.{◌≡◌, ℕ, Bool, true, false, cond, List, [],
 use Rattle.std.specs.List.{AllZip, flat_map, onto_first, slice_split}
 use Rattle.std.proofs.lemmas.List.{append-nil, append_assoc, map-append}
 use Rattle.std.proofs.lemmas.Grind.{flat_map-append}
-use Rattle.cb_inbox.specs.declared.queued.Queued.{Queued}
-use Rattle.cb_inbox.specs.declared.queued.Queued.TheVariants as queued
-use Rattle.cb_inbox.specs.Queued.{is_open}
-use Rattle.cb_inbox.specs.Seat.{SeatState, queued_more}
+use Rattle.cb_crew.specs.declared.queued.Queued.{Queued}
+use Rattle.cb_crew.specs.declared.queued.Queued.TheVariants as queued
+use Rattle.cb_crew.specs.Queued.{is_open}
+use Rattle.cb_crew.specs.Seat.{SeatState, queued_more}
 use Rattle.cb_crew.specs.declared.work.Given.{Given}
 use Rattle.cb_crew.specs.declared.work.Given.TheVariants as given
 use Rattle.cb_crew.specs.declared.reader_side.ReaderSide.{ReaderSide}
@@ -16,7 +16,7 @@ use Rattle.cb_crew.proofs.Works.{HasFirst, connections_again, connections_more, 
 use Rattle.cb_base.specs.declared.read_end.ReadEnd.{ReadEnd}
 use Rattle.cb_wire.specs.Stream.{Ends, Stream}
 use Rattle.cb_wire.proofs.Streams.{front_at-nil}
-use Rattle.cb_reader.specs.declared.input.Input.{Input}
+use Rattle.cb_session.specs.declared.input.Input.{Input}
 use Rattle.cb_service.specs.Service.{EndsOrStays, ended_of, queued_by}
 use Rattle.cb_peers.specs.Seat.{input_in}
 use Rattle.cb_peers.specs.Reading.{AreSpelled, AreSpelledBy, HasQueued, HasRead, IsSpelled, IsUnread, QueuedWhatItRead, input_of, inputs_of}

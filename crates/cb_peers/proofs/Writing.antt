@@ -3,7 +3,7 @@ use Rattle.std.proofs.Common.{◌≡◌, ℕ, ◌-◌, List, [], ◌++◌, lengt
 use Rattle.std.proofs.lemmas.List.{take_rest, take_at}
 use Rattle.std.proofs.lemmas.List.{append-nil}
 use Rattle.std.specs.Io.KnownBytes.{Appends}
-use Rattle.cb_talk.specs.Writing.{Wrote}
+use Rattle.cb_peer_state.specs.Writing.{Wrote}
 
 -- Of a list some are gone and the rest is left; so it is after more of the rest are gone.
 pub gone_more : (all done rest : List ℕ) (n : ℕ) → all ≡ done ++ rest → all ≡ (done ++ take n rest) ++ take (length rest - n) (drop n rest)

@@ -1,7 +1,7 @@
 -- What a node promises of its connections: what was made of all that their readers queued.
 use Rattle.std.specs.Prelude.{◌≡◌, ◌⊎◌, ℕ, true, false, List, [], length, map, All, Option}
 use Rattle.std.specs.List.{AllZip, range_with_len}
-use Rattle.cb_talk.specs.Writing.{Wrote}
+use Rattle.cb_peer_state.specs.Writing.{Wrote}
 use Rattle.cb_wire.specs.Stream.{texts}
 use Rattle.cb_peer_state.specs.declared.state.State.TheVariants.{Closed}
 use Rattle.cb_peer_state.specs.declared.state.CloseReason.TheVariants.{Bye}
@@ -14,7 +14,7 @@ use Rattle.cb_trace.specs.Kept.{KeepsHistory}
 use Rattle.cb_trace.specs.Prompt.{IsPrompt}
 use Rattle.cb_trace.specs.Trace.{StandsFor, weight_of}
 use Rattle.cb_session.specs.Serving.{IsInOrder}
-use Rattle.cb_inbox.specs.declared.queued.Queued.{Queued}
+use Rattle.cb_crew.specs.declared.queued.Queued.{Queued}
 use Rattle.cb_crew.specs.declared.work.Given.{Given}
 use Rattle.cb_crew.specs.declared.reader_side.ReaderSide.{ReaderSide}
 use Rattle.cb_crew.specs.Work.{AreWorksOf, connections_of}
@@ -22,7 +22,7 @@ use Rattle.cb_crew.specs.Desk.{DeskState, first_label}
 use Rattle.cb_crew.specs.Crew.{CrewState, all_queued, names_of}
 use Rattle.cb_crew.specs.Headline.{works_of}
 use Rattle.cb_crew.specs.Past.{LatestStay}
-use Rattle.cb_reader.specs.declared.input.Input.{Input}
+use Rattle.cb_session.specs.declared.input.Input.{Input}
 use Rattle.cb_work.specs.PeerWork.{HoldsNothing, WorkState, events_of, label_of, was_starved}
 
 -- One connection: what its reader queued, and what its work made of that. `contents` tells what a

@@ -1,9 +1,9 @@
 -- What a peer's reader queues of its connections.
 use Rattle.std.specs.Prelude.{◌≡◌, ℕ, ◌≤◌, ◌⊎◌, Bool, true, false, List, [], ◌∷◌, ◌++◌, length, Option}
 use Rattle.std.specs.List.{AllZip, flat_map}
-use Rattle.cb_inbox.specs.declared.queued.Queued.{Queued}
-use Rattle.cb_inbox.specs.declared.queued.Queued.TheVariants as queued
-use Rattle.cb_inbox.specs.Queued.{has_ended}
+use Rattle.cb_crew.specs.declared.queued.Queued.{Queued}
+use Rattle.cb_crew.specs.declared.queued.Queued.TheVariants as queued
+use Rattle.cb_crew.specs.Queued.{has_ended}
 use Rattle.cb_crew.specs.declared.work.Given.{Given}
 use Rattle.cb_crew.specs.declared.work.Given.TheVariants as given
 use Rattle.cb_crew.specs.declared.reader_side.ReaderSide.{ReaderSide}
@@ -11,10 +11,10 @@ use Rattle.cb_crew.specs.Crew.{all_queued}
 use Rattle.cb_crew.specs.Work.{connections_of, openings_of}
 use Rattle.cb_wire.specs.declared.item.Item.{Item}
 use Rattle.cb_base.specs.declared.read_end.ReadEnd.{ReadEnd}
-use Rattle.cb_reader.specs.declared.input.Input.{Input}
-use Rattle.cb_reader.specs.Input.{maybe, said}
-use Rattle.cb_reader.specs.Putting.{SeatNow}
-use Rattle.cb_reader.specs.Reading.{IsToPut, Reads}
+use Rattle.cb_session.specs.declared.input.Input.{Input}
+use Rattle.cb_session.specs.Input.{maybe, said}
+use Rattle.cb_session.specs.Putting.{SeatNow}
+use Rattle.cb_session.specs.Reading.{IsToPut, Reads}
 use Rattle.cb_peers.specs.Seat.{input_in}
 
 -- a seat that counts so many marks, in a connection in which nothing was put

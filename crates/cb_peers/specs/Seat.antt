@@ -2,14 +2,14 @@
 use Rattle.std.specs.Prelude.{◌≡◌, ℕ, ◌+◌, ◌<◌, ◌≤◌, ◌^◌, Bool, true, false, List, [], ◌∷◌, ◌++◌, length, take, drop, Option, None, Some, refl}
 use Rattle.std.specs.List.{flat_map}
 use Rattle.std.proofs.Common.{◌∙◌}
-use Rattle.cb_inbox.specs.declared.queued.Queued.{Queued}
-use Rattle.cb_inbox.specs.declared.queued.Queued.TheVariants as queued
-use Rattle.cb_inbox.specs.Seat.{InboxState}
+use Rattle.cb_crew.specs.declared.queued.Queued.{Queued}
+use Rattle.cb_crew.specs.declared.queued.Queued.TheVariants as queued
+use Rattle.cb_crew.specs.Seat.{InboxState}
 use Rattle.cb_crew.specs.declared.reader_side.ReaderSide.{ReaderSide}
 use Rattle.cb_crew.specs.declared.reader_side.ReaderSide.TheVariants as side
 use Rattle.cb_crew.specs.Crew.{inbox_of}
 use Rattle.cb_crew.specs.Work.{openings_of}
-use Rattle.cb_reader.specs.declared.input.Input.{Input}
+use Rattle.cb_session.specs.declared.input.Input.{Input}
 use Rattle.cb_service.specs.Service.{queued_by}
 
 -- the input that a mark is, if it is one

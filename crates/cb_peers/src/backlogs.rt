@@ -2,7 +2,7 @@ ghost use Rattle.std.specs.Prelude.{IsOkUnless};
 ghost use Rattle.cb_base.specs.declared.fault.Fault.TheVariants.{Memory};
 
 use cb_base::Fault;
-use cb_crew::Turn;
+use cb_crew::TurnOutcome;
 use std::alloc::Global;
 use std::sync::atomic::{AtomicU64, Ordering};
 
@@ -45,8 +45,8 @@ impl Backlogs {
     }
 
     /// Counts the marks that a handler took in this turn.
-    pub fn count(&self, turn: Turn) {
-        let Turn::Served(peer, worked, passed) = turn else {
+    pub fn count(&self, turn: TurnOutcome) {
+        let TurnOutcome::Served(peer, worked, passed) = turn else {
             return;
         };
         if let Some(backlog) = self.peers.get(usize::from(peer)) {

@@ -2,8 +2,8 @@ ghost use Rattle.cb_crew.specs.Crew.{AreHandlersOf, AreSidesOf};
 ghost use Rattle.cb_peers.specs.Headline.{IsHeadline};
 
 use cb_crew::{Crew, Desk, Fresh, Handler, ReaderSide};
-use cb_reader::Input;
-use cb_talk::MessageSink;
+use cb_peer_state::MessageSink;
+use cb_session::Input;
 use cb_trace::Oracle;
 use cb_work::{Flags, PeerWork};
 use std::sync::Wait;

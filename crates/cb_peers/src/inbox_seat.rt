@@ -6,10 +6,9 @@ ghost use Rattle.cb_peers.specs.Seat.{HasTaken, before_in, is_ended, marks_of, p
 
 use crate::backlogs::Backlogs;
 use crate::outbox::Outbox;
-use cb_crew::ReaderSide;
-use cb_inbox::{Inbox, Opening, ReaderSeat};
-use cb_reader::{Input, Seat};
+use cb_crew::{Inbox, Opening, ReaderSeat, ReaderSide};
 use cb_service::{Signals, offer, offer_end};
+use cb_session::{Input, Seat};
 use cb_wire::{Item, Message};
 use cb_work::ConnectionStatus;
 use std::marker::Model;

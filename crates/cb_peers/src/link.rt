@@ -4,11 +4,11 @@ ghost use Rattle.cb_base.specs.declared.fault.Fault.TheVariants.{Memory};
 use crate::backlogs::Backlogs;
 use crate::outbox::{Outbox, WriterEnd};
 use crate::socket::Socket;
-use crate::telling::Roll;
+use crate::telling::ToldConnections;
 use cb_base::{Fault, Shared, Sink, SinkFailure};
-use cb_crew::Turn;
+use cb_crew::TurnOutcome;
+use cb_peer_state::{MessageSink, Outgoing, QueueFault, Receipt, Room, WriteEnd, WriteFault};
 use cb_service::{AfterTurn, Signals};
-use cb_talk::{MessageSink, Outgoing, QueueFault, Receipt, Room, WriteEnd, WriteFault};
 use cb_work::ConnectionStatus;
 use std::alloc::Global;
 use std::net::TcpStream;
@@ -23,7 +23,6 @@ const LAST_WAITS: u32 = 100;
 const LAST_MILLISECONDS: u64 = 300;
 
 /// What the threads of a connection share with the node.
-#[derive(Drop)]
 pub struct Link {
     /// The number of the connection's slot.
     pub peer: u16,
@@ -37,6 +36,19 @@ pub struct Link {
     pub outbox: Outbox,
     /// Whether the connection's reader has said that it returns.
     left: AtomicBool,
+}
+
+impl Drop for Link {
+    fn drop(self) {
+        let Link {
+            peer: _,
+            generation: _,
+            status: _,
+            socket: _,
+            outbox: _,
+            left: _,
+        } = self;
+    }
 }
 
 impl Link {
@@ -106,13 +118,22 @@ impl Link {
 /// there. A message is taken or refused as a whole. It is refused before the socket is there, after
 /// the connection was closed, after the socket took nothing for too long, if the outbox or those of
 /// the node are full, and ever after such a failure.
-#[derive(Drop)]
 pub struct OutboxSink<R: Drop> {
     /// By which it waits for the outbox's lock.
     rt: R,
     /// The connection.
     link: Shared<Link>,
     failure: Option<SinkFailure>,
+}
+
+impl<R: Drop> Drop for OutboxSink<R> {
+    fn drop(self) {
+        let OutboxSink {
+            rt: _,
+            link: _,
+            failure: _,
+        } = self;
+    }
 }
 
 impl<R: Drop> OutboxSink<R> {
@@ -212,11 +233,20 @@ impl TipNews {
 }
 
 /// The connections of each slot that aren't over, and the room of all outboxes.
-#[derive(Drop)]
 pub struct Links {
     alloc: Global,
     slots: Vec<Mutex<Vec<Shared<Link>>>>,
     room: Shared<Mutex<Room>>,
+}
+
+impl Drop for Links {
+    fn drop(self) {
+        let Links {
+            alloc: _,
+            slots: _,
+            room: _,
+        } = self;
+    }
 }
 
 impl Links {
@@ -285,10 +315,10 @@ impl Links {
     }
 
     /// All connections. Fails only with `Fault::Memory`.
-    fn roll<R: Wait>(&self, rt: &R) -> Result<Roll, Fault>
+    fn roll<R: Wait>(&self, rt: &R) -> Result<ToldConnections, Fault>
         ensures memory { IsOkUnless result Memory }
     {
-        let mut roll = Roll::new(self.alloc);
+        let mut roll = ToldConnections::new(self.alloc);
         for links in self.slots.as_slice() {
             add_all(&mut roll, links.lock(rt).as_slice())?;
         }
@@ -316,7 +346,7 @@ impl Links {
 }
 
 /// Adds these connections to others. Fails only with `Fault::Memory`.
-fn add_all(roll: &mut Roll, links: &[Shared<Link>]) -> Result<(), Fault>
+fn add_all(roll: &mut ToldConnections, links: &[Shared<Link>]) -> Result<(), Fault>
     ensures memory { IsOkUnless result Memory }
 {
     for link in links {
@@ -397,14 +427,14 @@ impl CloseEnded {
 }
 
 impl AfterTurn for CloseEnded {
-    fn after_turn<R: Wait>(&self, rt: &R, turn: Turn) {
+    fn after_turn<R: Wait>(&self, rt: &R, turn: TurnOutcome) {
         self.backlogs.count(turn);
         match turn {
-            Turn::Served(slot, _, _) | Turn::Idle(slot) | Turn::Shut(slot) => {
+            TurnOutcome::Served(slot, _, _) | TurnOutcome::Idle(slot) | TurnOutcome::Shut(slot) => {
                 let news = self.links.close_ended(rt, slot, self.prompt);
                 self.tell(rt, news);
             }
-            Turn::NoDesk | Turn::Spent => {}
+            TurnOutcome::NoDesk | TurnOutcome::Spent => {}
         }
     }
 }

@@ -3,14 +3,16 @@
 //! handler up, and no more than one message is spelled for it at a time, or a few small ones.
 ghost use Rattle.std.specs.Prelude.{◌≡◌, ◌≢◌, ◌↔◌, ◌+◌, ◌<◌, ◌≤◌, ℕ, List, [], length, take, vec_capacity, IfOk, IsErr, IsOk, IsOkUnless, OnErr, OnOk};
 ghost use Rattle.cb_base.specs.declared.fault.Fault.TheVariants.{Memory};
-ghost use Rattle.cb_peers.specs.declared.outbox.Due.TheVariants.{Messages};
+ghost use Rattle.cb_peers.specs.declared.outbox.NextWrite.TheVariants.{Messages};
 ghost use Rattle.std.specs.Io.KnownBytes.{Appends, WriteAppends};
 ghost use Rattle.cb_wire.specs.Stream.{texts};
 ghost use Rattle.cb_wire.specs.declared.message.Message.{Message};
 
 use cb_base::{Fault, Shared};
+use cb_peer_state::{
+    MESSAGE, MOST_TOGETHER, MessageQueue, Outgoing, QueueFault, Receipt, Room, Waiting,
+};
 use cb_service::Sleeper;
-use cb_talk::{MESSAGE, MOST_TOGETHER, MessageQueue, Outgoing, QueueFault, Receipt, Room, Waiting};
 use cb_work::ConnectionStatus;
 use std::alloc::Global;
 use std::io::{ErrorKind, Write};
@@ -53,7 +55,6 @@ pub enum WriterEnd {
 ///
 /// Nothing is taken before the outbox is opened, nor after it was closed, after a message that had
 /// no room, and after a failed write.
-#[derive(Drop)]
 pub struct Outbox {
     alloc: Global,
     queue: Mutex<MessageQueue>,
@@ -69,8 +70,22 @@ pub struct Outbox {
     done: AtomicU64,
 }
 
+impl Drop for Outbox {
+    fn drop(self) {
+        let Outbox {
+            alloc: _,
+            queue: _,
+            held: _,
+            room: _,
+            started: _,
+            writer: _,
+            done: _,
+        } = self;
+    }
+}
+
 /// What a thread that writes is to do next.
-enum Due {
+enum NextWrite {
     /// It writes the messages that were taken.
     Messages,
     /// It waits for what comes.
@@ -229,24 +244,24 @@ impl Outbox {
             × Appends (W.contents writer.old) (W.contents writer.new)
             (take taken (texts messages)) }
     {
-        let mut pace = Pace::new(stream);
+        let mut pace = WritePace::new(stream);
         let Ok(mut batch) = Vec::with_capacity(self.alloc, MOST_TOGETHER) else {
             self.close(rt);
             return WriterEnd::Memory;
         };
         for _ in rt.forever() {
             let end = match self.due(rt, &mut batch) {
-                Due::Messages => {
+                NextWrite::Messages => {
                     match self.write_batch(rt, &mut batch, writer, &mut pace, status) {
                         Ok(()) => continue,
                         Err(end) => end,
                     }
                 }
-                Due::Rest => {
+                NextWrite::Rest => {
                     self.writer.sleep(rt);
                     continue;
                 }
-                Due::End => WriterEnd::Closed,
+                NextWrite::End => WriterEnd::Closed,
             };
             self.close(rt);
             return end;
@@ -263,7 +278,7 @@ impl Outbox {
 
     /// What is due. The messages that are written next are taken off, into an empty list, and their
     /// room is given back.
-    fn due<R: Wait>(&self, rt: &R, batch: &mut Vec<Outgoing>) -> Due
+    fn due<R: Wait>(&self, rt: &R, batch: &mut Vec<Outgoing>) -> NextWrite
         requires empty { batch.old.items ≡ [] }
         requires room { 64 ≤ vec_capacity batch.old }
         ensures room { 64 ≤ vec_capacity batch.new }
@@ -273,13 +288,17 @@ impl Outbox {
         let held = queue.held();
         queue.take_together(batch);
         if batch.is_empty() {
-            return if queue.is_open() { Due::Rest } else { Due::End };
+            return if queue.is_open() {
+                NextWrite::Rest
+            } else {
+                NextWrite::End
+            };
         }
         let left = queue.held();
         self.note_held(left);
         let freed = held.saturating_sub(left);
         self.room.lock(rt).give(freed);
-        Due::Messages
+        NextWrite::Messages
     }
 
     /// Spells the messages of a list, which is empty afterwards, and writes them. Otherwise a
@@ -289,7 +308,7 @@ impl Outbox {
         rt: &R,
         batch: &mut Vec<Outgoing>,
         writer: &mut W,
-        pace: &mut Pace,
+        pace: &mut WritePace,
         status: &ConnectionStatus,
     ) -> Result<(), WriterEnd>
         requires { 64 ≤ vec_capacity batch.old }
@@ -313,7 +332,7 @@ impl Outbox {
         rt: &R,
         writer: &mut W,
         piece: &[u8],
-        pace: &mut Pace,
+        pace: &mut WritePace,
         status: &ConnectionStatus,
     ) -> Result<(), WriterEnd>
         ensures whole { OnOk result
@@ -338,14 +357,14 @@ impl Outbox {
 
 /// What a thread that writes remembers of its writes.
 #[derive(Drop)]
-struct Pace {
+struct WritePace {
     /// How many writes in a row took nothing.
     still: u32,
 }
 
-impl Pace {
+impl WritePace {
     /// No write was made to this stream yet. Each waits for a part of the stream's write timeout.
-    fn new<S: OpenStream>(stream: &S) -> Pace
+    fn new<S: OpenStream>(stream: &S) -> WritePace
         ensures { result.still ≡ 0 }
     {
         let whole = match stream.write_timeout() {
@@ -353,7 +372,7 @@ impl Pace {
             Ok(None) | Err(_) => Duration::from_millis(STILL_MILLISECONDS),
         };
         let _ = stream.set_write_timeout(whole.checked_div(STILL_WRITES));
-        Pace { still: 0 }
+        WritePace { still: 0 }
     }
 
     /// A write took so many bytes. Fails if as many in a row took nothing as may be.

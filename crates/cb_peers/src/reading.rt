@@ -7,10 +7,9 @@ use crate::backlogs::Backlogs;
 use crate::inbox_seat::InboxSeat;
 use crate::outbox::Outbox;
 use crate::stopping::ConnectionStop;
-use cb_crew::ReaderSide;
-use cb_inbox::{Inbox, Opening, ReaderSeat};
-use cb_reader::{Input, ReadEnd, ReadFrom, Seat, Source, Stop, WasRead, read_loop};
-use cb_service::{Side, Signals, end};
+use cb_crew::{Inbox, Opening, ReaderSeat, ReaderSide};
+use cb_service::{CountedSide, Signals, end};
+use cb_session::{Input, ReadEnd, ReadFrom, Seat, Source, Stop, WasRead, read_loop};
 use cb_work::ConnectionStatus;
 use std::alloc::Global;
 use std::sync::Wait;
@@ -19,7 +18,7 @@ use std::sync::Wait;
 #[derive(Drop)]
 pub struct Left<O: Opening + Drop, S> {
     /// The side of the inbox.
-    pub side: Side<Input, O>,
+    pub side: CountedSide<Input, O>,
     /// Why reading ended.
     pub why: ReadEnd,
     /// What the source gave, for proofs alone.
@@ -60,13 +59,13 @@ pub fn read_connection<R: Wait, S: Source, P: Stop, O: Opening + Drop>(
             // No effect when it runs: it tells the prover that the last mark is an end mark.
             ended.reached();
             Left {
-                side: Side::ended(ended, count),
+                side: CountedSide::ended(ended, count),
                 why,
                 bytes,
             }
         }
         ReaderSide::Live(seat) => Left {
-            side: end(rt, inbox, Side::live(seat), signals),
+            side: end(rt, inbox, CountedSide::live(seat), signals),
             why,
             bytes,
         },

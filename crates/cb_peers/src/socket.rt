@@ -1,9 +1,9 @@
 ghost use Rattle.std.specs.Prelude.{◌≡◌, []};
 
 use cb_base::{In, Shared};
-use cb_inbox::Opening;
-use cb_reader::{Input, ReadFrom};
+use cb_crew::Opening;
 use cb_service::Account;
+use cb_session::{Input, ReadFrom};
 use std::io::{self, ErrorKind, Read};
 use std::marker::Model;
 use std::net::{Shutdown, TcpStream};

@@ -1,7 +1,7 @@
 ghost use Rattle.std.specs.Prelude.{◌≡◌, false};
 
-use cb_reader::Stop;
 use cb_service::Signals;
+use cb_session::Stop;
 use cb_work::ConnectionStatus;
 
 /// Tells a connection's reader to stop: the connection is over, or all threads are told to return.

@@ -4,7 +4,7 @@ ghost use Rattle.cb_base.specs.declared.fault.Fault.TheVariants.{Memory};
 
 use cb_base::{Fault, Shared};
 use cb_service::Signals;
-use cb_work::{ConnectionStatus, Told, due_places};
+use cb_work::{ConnectionStatus, ToldTip, due_places};
 use std::alloc::Global;
 
 /// For how many ticks that are due one handler is woken.
@@ -12,17 +12,17 @@ pub const TICKS_A_HANDLER: u32 = 64;
 
 /// Connections, and what the peer of each was told of the tip.
 #[derive(Drop)]
-pub(crate) struct Roll {
+pub(crate) struct ToldConnections {
     alloc: Global,
     /// As many as there are statuses.
-    told: Vec<Told>,
+    told: Vec<ToldTip>,
     statuses: Vec<Shared<ConnectionStatus>>,
 }
 
-impl Roll {
+impl ToldConnections {
     /// No connection.
-    pub fn new(alloc: Global) -> Roll {
-        Roll {
+    pub fn new(alloc: Global) -> ToldConnections {
+        ToldConnections {
             alloc,
             told: Vec::new(alloc),
             statuses: Vec::new(alloc),

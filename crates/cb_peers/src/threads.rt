@@ -10,10 +10,9 @@ use crate::reading::{Left, read_connection};
 use crate::socket::{SocketBytes, SocketReader};
 use crate::stopping::ConnectionStop;
 use cb_base::{In, Shared};
-use cb_crew::{Crew, Fresh, Work};
-use cb_inbox::{Inbox, Opening, ReaderSeat};
-use cb_reader::Input;
-use cb_service::{NoReader, Reader, Reading, Side, Signals, ThreadFault, start_reader};
+use cb_crew::{Crew, Fresh, Inbox, Opening, ReaderSeat, Work};
+use cb_service::{CountedSide, NoReader, Reader, ReaderThread, Signals, ThreadFault, start_reader};
+use cb_session::Input;
 use std::alloc::Global;
 use std::marker::{Copy, Send};
 use std::net::TcpStream;
@@ -42,7 +41,7 @@ impl<O: Opening + Drop> Reader<Input, O, SocketBytes> for SocketReading {
         inbox: &Inbox<Input, O>,
         seat: &mut Option<ReaderSeat<Input, O>>,
         signals: &Signals,
-    ) -> (Side<Input, O>, SocketBytes)
+    ) -> (CountedSide<Input, O>, SocketBytes)
         requires seat { HoldsSeat inbox.now.name seat.old }
         ensures inbox { inbox_of result.0 ≡ inbox.now.name }
         ensures account { IfSome seat.old
@@ -122,7 +121,7 @@ pub fn start_threads<
     peer: u16,
     seat: ReaderSeat<Input, Fresh<W>>,
     reading: SocketReading,
-) -> Result<Reading<W, SocketBytes>, NoReader<W>>
+) -> Result<ReaderThread<W, SocketBytes>, NoReader<W>>
     requires peer { peer < length crew.inboxes }
     requires inbox { IsInboxAt crew peer seat.inbox }
     requires place { length seat.queued < 2 ^ 48 }

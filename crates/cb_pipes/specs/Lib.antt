@@ -1,2 +1,3 @@
+pub mod LastSecond
 pub mod Logging
 pub mod Pacing

@@ -34,7 +34,7 @@ pub struct LogThread {
 
 /// What the thread has.
 #[derive(Drop)]
-struct Work {
+struct LogWriter {
     lines: Receiver<LogLine, Global>,
     over: Sender<(), Global>,
 }
@@ -57,13 +57,13 @@ pub fn start_log<R: Threads + Wait + Eprint + Copy + Send + Drop + 'static>(
     rt: &R,
     alloc: Global,
 ) -> Result<(Sender<LogLine, Global>, LogThread), LogFault> {
-    let Ok((lines, work, over)) = ways(alloc) else {
+    let Ok((lines, log_writer, over)) = ways(alloc) else {
         return Err(LogFault::Memory);
     };
     let rt_of_thread = *rt;
     let started = thread::spawn(rt, move || {
-        let (rt, work) = (rt_of_thread, work);
-        write_lines(&rt, alloc, &work);
+        let (rt, log_writer) = (rt_of_thread, log_writer);
+        write_lines(&rt, alloc, &log_writer);
     });
     match started {
         Ok(thread) => Ok((lines, LogThread { thread, over })),
@@ -78,16 +78,16 @@ pub fn start_log<R: Threads + Wait + Eprint + Copy + Send + Drop + 'static>(
 /// memory.
 fn ways(
     alloc: Global,
-) -> Result<(Sender<LogLine, Global>, Work, Receiver<(), Global>), AllocError> {
+) -> Result<(Sender<LogLine, Global>, LogWriter, Receiver<(), Global>), AllocError> {
     let (there, lines) = bounded(alloc, MOST_WAITING)?;
     let (over, ended) = bounded(alloc, 1)?;
-    Ok((there, Work { lines, over }, ended))
+    Ok((there, LogWriter { lines, over }, ended))
 }
 
 /// Writes lines until none comes any more. One that can't be written is dropped.
-fn write_lines<R: Wait + Eprint>(rt: &R, alloc: Global, work: &Work) {
+fn write_lines<R: Wait + Eprint>(rt: &R, alloc: Global, log_writer: &LogWriter) {
     for _ in rt.forever() {
-        let Ok(line) = work.lines.recv(rt) else {
+        let Ok(line) = log_writer.lines.recv(rt) else {
             return;
         };
         let mut text = String::new(alloc);

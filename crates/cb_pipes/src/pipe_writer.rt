@@ -58,7 +58,7 @@ impl Patience {
 
 /// The way to the thread that writes and back.
 #[derive(Drop)]
-struct Lane {
+struct PieceChannel {
     /// The pieces.
     there: Sender<Vec<u8>, Global>,
     /// For each piece that was written, or failed: whether it failed.
@@ -69,7 +69,7 @@ struct Lane {
     failure: Option<ErrorKind>,
 }
 
-/// The far end of a lane.
+/// The far end of a channel.
 #[derive(Drop)]
 struct FarEnd {
     there: Receiver<Vec<u8>, Global>,
@@ -91,7 +91,7 @@ pub struct PipeWriter<R, P> {
     pipes: Shared<Pipes>,
     patience: Patience,
     /// `None` if it writes itself.
-    lane: Option<Lane>,
+    channel: Option<PieceChannel>,
 }
 
 impl<R, P> PipeWriter<R, P> {
@@ -103,7 +103,7 @@ impl<R, P> PipeWriter<R, P> {
             pipe,
             pipes,
             patience: Patience::Always(0),
-            lane: None,
+            channel: None,
         }
     }
 }
@@ -121,34 +121,34 @@ impl<
         pipes: Shared<Pipes>,
         patience: Patience,
     ) -> PipeWriter<R, P> {
-        let lane = start_lane(&rt, alloc, pipe, &pipes, patience.holding());
+        let channel = start_channel(&rt, alloc, pipe, &pipes, patience.holding());
         PipeWriter {
             rt,
             alloc,
             pipe,
             pipes,
             patience,
-            lane,
+            channel,
         }
     }
 }
 
 impl<R: Wait + Clock, P: Write> Write for PipeWriter<R, P> {
     fn write(&mut self, piece: &[u8]) -> io::Result<usize> {
-        let Some(lane) = &mut self.lane else {
+        let Some(channel) = &mut self.channel else {
             return self.pipe.write(piece);
         };
-        if let Some(kind) = lane.failure {
+        if let Some(kind) = channel.failure {
             return Err(io::Error::from(kind));
         }
         let Ok(copy) = copy_of(self.alloc, piece) else {
             return self.pipe.write(piece);
         };
         if !copy.is_empty() {
-            send(&self.rt, lane, copy, &self.pipes, self.patience);
+            send(&self.rt, channel, copy, &self.pipes, self.patience);
         }
-        settle(&self.rt, lane, &self.pipes, self.patience);
-        match lane.failure {
+        settle(&self.rt, channel, &self.pipes, self.patience);
+        match channel.failure {
             None => Ok(piece.len()),
             Some(kind) => Err(io::Error::from(kind)),
         }
@@ -167,32 +167,38 @@ fn copy_of(alloc: Global, piece: &[u8]) -> Result<Vec<u8>, AllocError> {
 }
 
 /// Gives the thread that writes a piece.
-fn send<R: Wait>(rt: &R, lane: &mut Lane, piece: Vec<u8>, pipes: &Pipes, patience: Patience) {
+fn send<R: Wait>(
+    rt: &R,
+    channel: &mut PieceChannel,
+    piece: Vec<u8>,
+    pipes: &Pipes,
+    patience: Patience,
+) {
     pipes.add_waiting(patience.holding());
-    match lane.there.send(rt, piece) {
-        Ok(()) => lane.sent = lane.sent.saturating_add(1),
+    match channel.there.send(rt, piece) {
+        Ok(()) => channel.sent = channel.sent.saturating_add(1),
         Err(refused) => {
             drop(refused);
-            lane.failure = Some(ErrorKind::BrokenPipe);
+            channel.failure = Some(ErrorKind::BrokenPipe);
         }
     }
 }
 
 /// Waits until all pieces are written, as long as its patience says. Notes what failed.
-fn settle<R: Wait + Clock>(rt: &R, lane: &mut Lane, pipes: &Pipes, patience: Patience) {
+fn settle<R: Wait + Clock>(rt: &R, channel: &mut PieceChannel, pipes: &Pipes, patience: Patience) {
     let pause = Duration::from_millis(LOOK_MILLISECONDS);
     let (mut looks, mut progress) = (0u64, pipes.progress());
     for _ in rt.forever() {
-        if lane.sent == 0 || lane.failure.is_some() {
+        if channel.sent == 0 || channel.failure.is_some() {
             return;
         }
-        match lane.back.recv_timeout(rt, pause) {
+        match channel.back.recv_timeout(rt, pause) {
             Ok(failure) => {
-                lane.sent = lane.sent.saturating_sub(1);
-                lane.failure = failure;
+                channel.sent = channel.sent.saturating_sub(1);
+                channel.failure = failure;
                 looks = 0;
             }
-            Err(RecvTimeoutError::Disconnected) => lane.failure = Some(ErrorKind::BrokenPipe),
+            Err(RecvTimeoutError::Disconnected) => channel.failure = Some(ErrorKind::BrokenPipe),
             Err(RecvTimeoutError::Timeout) => {
                 if !patience.lasts(pipes) {
                     return;
@@ -205,7 +211,7 @@ fn settle<R: Wait + Clock>(rt: &R, lane: &mut Lane, pipes: &Pipes, patience: Pat
                 };
                 progress = reached;
                 if looks >= patience.looks() {
-                    lane.failure = Some(ErrorKind::TimedOut);
+                    channel.failure = Some(ErrorKind::TimedOut);
                 }
             }
         }
@@ -213,11 +219,11 @@ fn settle<R: Wait + Clock>(rt: &R, lane: &mut Lane, pipes: &Pipes, patience: Pat
 }
 
 /// Starts a thread that writes to this pipe. `None` if memory ran out, or no thread can be made.
-fn start_lane<
+fn start_channel<
     R: Threads + Wait + Copy + Send + Drop + 'static,
     P: Write + Copy + Send + Drop + 'static,
->(rt: &R, alloc: Global, pipe: P, pipes: &Shared<Pipes>, holding: u64) -> Option<Lane> {
-    let (lane, far) = ends_of(alloc, pipes, holding).ok()?;
+>(rt: &R, alloc: Global, pipe: P, pipes: &Shared<Pipes>, holding: u64) -> Option<PieceChannel> {
+    let (channel, far) = ends_of(alloc, pipes, holding).ok()?;
     let rt_of_thread = *rt;
     let started = thread::spawn(rt, move || {
         let (rt, far, mut pipe) = (rt_of_thread, far, pipe);
@@ -226,7 +232,7 @@ fn start_lane<
     match started {
         Ok(thread) => {
             drop(thread);
-            Some(lane)
+            Some(channel)
         }
         Err(refused) => {
             drop(refused);
@@ -235,15 +241,15 @@ fn start_lane<
     }
 }
 
-/// Both ends of a lane. Fails only for lack of memory.
+/// Both ends of a channel. Fails only for lack of memory.
 fn ends_of(
     alloc: Global,
     pipes: &Shared<Pipes>,
     holding: u64,
-) -> Result<(Lane, FarEnd), AllocError> {
+) -> Result<(PieceChannel, FarEnd), AllocError> {
     let (there, arriving) = bounded(alloc, MOST_PIECES)?;
     let (back, returning) = bounded(alloc, MOST_PIECES)?;
-    let lane = Lane {
+    let channel = PieceChannel {
         there,
         back: returning,
         sent: 0,
@@ -255,7 +261,7 @@ fn ends_of(
         pipes: pipes.clone()?,
         holding,
     };
-    Ok((lane, far))
+    Ok((channel, far))
 }
 
 /// Writes what comes, and tells of each piece, until nothing comes any more.

@@ -24,12 +24,12 @@ pub struct PipedLog<R: Drop> {
     alloc: Global,
     /// These tell which records are logged.
     pipes: Shared<Pipes>,
-    outgoing: Mutex<Outgoing<R>>,
+    outgoing: Mutex<LogLane<R>>,
 }
 
 /// The way to the thread that writes the log, and what was dropped on it.
 #[derive(Drop)]
-struct Outgoing<R: Drop> {
+struct LogLane<R: Drop> {
     lane: ChannelLane<R>,
     losses: Losses,
 }
@@ -65,7 +65,7 @@ impl<R: Wait + Clock + Copy + Drop> PipedLog<R> {
             rt,
             alloc,
             pipes,
-            outgoing: Mutex::new(Outgoing {
+            outgoing: Mutex::new(LogLane {
                 lane: ChannelLane { rt, lines },
                 losses: Losses::none(),
             }),

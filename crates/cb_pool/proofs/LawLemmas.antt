@@ -11,8 +11,8 @@ use Rattle.cb_base.specs.Reading.{◌>>=◌}
 use Rattle.cb_base.specs.declared.fault.Fault.{Fault}
 use Rattle.cb_base.specs.declared.hash.Hash256.{Hash256}
 use Rattle.cb_base.proofs.Fields.{bind_ok}
-use Rattle.cb_tx.specs.declared.tx.OutPoint.{OutPoint}
-use Rattle.cb_tx.specs.declared.tx.Tx.{Tx}
+use Rattle.cb_block.specs.declared.tx.OutPoint.{OutPoint}
+use Rattle.cb_block.specs.declared.tx.Tx.{Tx}
 use Rattle.cb_ledger.specs.Spend.{is_coinbase, spend, spend_tx}
 use Rattle.cb_ledger.specs.Touched.{IsMade, IsNamed}
 use Rattle.cb_ledger.specs.Unspent.{Unspent}
@@ -20,7 +20,8 @@ use Rattle.cb_ledger.proofs.Touching.{inputs_take, two, txs_none, txs_take}
 use Rattle.cb_pool.specs.declared.members.Pooled.{Pooled}
 use Rattle.cb_pool.specs.Folding.{Folds, Offer, Refolds, new_offer, next_after, numbered, old_offer}
 use Rattle.cb_pool.specs.Listing.{Listing, NamesDiffer, txs_of}
-use Rattle.cb_pool.specs.Rules.{Applies, StandsAlone, is_named_in, named_in, same, txid_of}
+use Rattle.cb_pool.specs.Rules.{Applies, StandsAlone, is_named_in, named_in, same}
+use Rattle.cb_block.specs.Txid.{txid_of}
 use Rattle.cb_pool.proofs.Named.{AreNamed, pooled_of, txs_long}
 use Rattle.cb_pool.proofs.Spent.{not_coinbase, ok_at}
 

@@ -1,7 +1,6 @@
 pub mod LawLemmas
 pub mod Left
 pub mod Marking
-pub mod Matching
 pub mod Named
 pub mod Numbers
 pub mod Spent

@@ -9,20 +9,21 @@ use Rattle.cb_base.specs.Reading.{◌>>=◌}
 use Rattle.cb_base.specs.declared.fault.Fault.TheVariants.{Overspent, Remade}
 use Rattle.cb_base.specs.declared.hash.Hash256.{Hash256}
 use Rattle.cb_base.proofs.Fields.{bind_ok, ok_is}
-use Rattle.cb_tx.specs.declared.tx.OutPoint.{OutPoint}
-use Rattle.cb_tx.specs.declared.tx.TxIn.{TxIn}
-use Rattle.cb_tx.specs.declared.tx.TxOut.{TxOut}
-use Rattle.cb_tx.specs.declared.tx.Tx.{Tx}
-use Rattle.cb_tx.specs.Rules.{value_sum}
-use Rattle.cb_tx.proofs.Repeats.{same-true, same-refl}
+use Rattle.cb_block.specs.declared.tx.OutPoint.{OutPoint}
+use Rattle.cb_block.specs.declared.tx.TxIn.{TxIn}
+use Rattle.cb_block.specs.declared.tx.TxOut.{TxOut}
+use Rattle.cb_block.specs.declared.tx.Tx.{Tx}
+use Rattle.cb_block.specs.TxRules.{value_sum}
+use Rattle.cb_block.proofs.Repeats.{same-true, same-refl}
 use Rattle.cb_ledger.specs.Spend.{is_coinbase, make_outputs, spend, spend_inputs, spend_tx}
 use Rattle.cb_ledger.specs.Touched.{IsNamed}
 use Rattle.cb_ledger.specs.Unspent.{Unspent}
 use Rattle.cb_ledger.proofs.Sums.{test_ok}
-use Rattle.cb_pool.specs.declared.marks.Mark.{Mark}
-use Rattle.cb_pool.specs.declared.marks.Mark.TheVariants.{Gone, Holds, Same, Unknown}
+use Rattle.cb_pool.specs.declared.marks.OutputMark.{OutputMark}
+use Rattle.cb_pool.specs.declared.marks.OutputMark.TheVariants.{Gone, Holds, Same, Unknown}
 use Rattle.cb_pool.specs.Leaving.{after_tx, with_outputs, without_inputs}
-use Rattle.cb_pool.specs.Rules.{same, txid_of}
+use Rattle.cb_pool.specs.Rules.{same}
+use Rattle.cb_block.specs.Txid.{txid_of}
 use Rattle.cb_pool.specs.Staying.{AreMarked, IsLevel, Marking, Moves, Says, Tells, is_gone, mark_at, same_point}
 use Rattle.cb_pool.specs.Touching.{IsTouchedBy}
 use Rattle.cb_pool.proofs.Left.{any_at, insert_other, named_any, without_named, without_other}
@@ -30,7 +31,7 @@ use Rattle.cb_pool.proofs.Spent.{inputs_leave, outputs_leave}
 use Rattle.cb_pool.proofs.Untouched.{insert_here, named_in, none_of}
 
 -- one output has a mark, and all others what they had
-abbrev pub Put : OutPoint → Mark → Marking → Marking → Type 0
+abbrev pub Put : OutPoint → OutputMark → Marking → Marking → Type 0
 Put k mark old new = (q : OutPoint) → mark_at new q ≡ cond (same_point k q) (Some mark) (mark_at old q)
 
 apart : (k q : OutPoint) → same_point k q ≡ false → k ≢ q
@@ -47,7 +48,7 @@ named_last : (front : List TxIn) (input : TxIn) (q : OutPoint) → input.prev �
 named_last [] input q is = inl is
 named_last (first ∷ front) input q is = inr (named_last front input q is)
 
-marked_last : (front : List TxIn) (input : TxIn) (mark : Mark) (old mid new : Marking) → Put input.prev mark mid new → AreMarked front mark old mid → AreMarked (front ++ input ∷ []) mark old new
+marked_last : (front : List TxIn) (input : TxIn) (mark : OutputMark) (old mid new : Marking) → Put input.prev mark mid new → AreMarked front mark old mid → AreMarked (front ++ input ∷ []) mark old new
 marked_last front input mark old mid new put so_far q =
     elim (cases_Bool (same_point input.prev q)) [
       | inl is ↦ inl (named_last front input q (same-true input.prev q is), put q ∙ rw is refl)
@@ -64,10 +65,10 @@ marked_last front input mark old mid new put so_far q =
           ]
     ]
 
-pub marked_none : (mark : Mark) (old : Marking) → AreMarked [] mark old old
+pub marked_none : (mark : OutputMark) (old : Marking) → AreMarked [] mark old old
 marked_none mark old q = inr (λ named. named, refl)
 
-pub marked_more : (inputs : List TxIn) (i : ℕ) (input : TxIn) (mark : Mark) (old mid new : Marking) → i < length inputs → input ≡ get_or inputs i input → Put input.prev mark mid new
+pub marked_more : (inputs : List TxIn) (i : ℕ) (input : TxIn) (mark : OutputMark) (old mid new : Marking) → i < length inputs → input ≡ get_or inputs i input → Put input.prev mark mid new
     → AreMarked (take i inputs) mark old mid → AreMarked (take (i + 1) inputs) mark old new
 marked_more inputs i input mark old mid new lt is put so_far =
     let longer : take (i + 1) inputs ≡ take i inputs ++ input ∷ [] = take_more inputs i input lt ∙ ap (λ (x : TxIn). take i inputs ++ x ∷ []) (sym is) in
@@ -78,10 +79,10 @@ gone_tells inputs old new was now marked tells q =
     let left = finite.get was q in
     let right = finite.get (without_inputs now inputs) q in
     elim (marked q) [
-      | inl there ↦ subst (λ (m : Option Mark). Says m left right) (sym there.1) (without_named q now inputs there.0)
+      | inl there ↦ subst (λ (m : Option OutputMark). Says m left right) (sym there.1) (without_named q now inputs there.0)
       | inr other ↦
           let stays : Says (mark_at old q) left right = subst (Says (mark_at old q) left) (sym (without_other q now inputs other.0)) (tells q) in
-          subst (λ (m : Option Mark). Says m left right) (sym other.1) stays
+          subst (λ (m : Option OutputMark). Says m left right) (sym other.1) stays
     ]
 
 pub unknown_tells : (inputs : List TxIn) (old new : Marking) (was now : Unspent) → AreMarked inputs Unknown old new → Tells old was now → Tells new (without_inputs was inputs) now
@@ -89,13 +90,13 @@ unknown_tells inputs old new was now marked tells q =
     let left = finite.get (without_inputs was inputs) q in
     let right = finite.get now q in
     elim (marked q) [
-      | inl there ↦ subst (λ (m : Option Mark). Says m left right) (sym there.1) tt
+      | inl there ↦ subst (λ (m : Option OutputMark). Says m left right) (sym there.1) tt
       | inr other ↦
           let stays : Says (mark_at old q) left right = subst (λ (v : Option ℤ). Says (mark_at old q) v right) (sym (without_other q was inputs other.0)) (tells q) in
-          subst (λ (m : Option Mark). Says m left right) (sym other.1) stays
+          subst (λ (m : Option OutputMark). Says m left right) (sym other.1) stays
     ]
 
-marked_keys : (inputs : List TxIn) (mark : Mark) (old new : Marking) (q : OutPoint) → AreMarked inputs mark old new → mark_at new q ≡ None → (mark_at old q ≡ None) × (¬ IsNamed inputs q)
+marked_keys : (inputs : List TxIn) (mark : OutputMark) (old new : Marking) (q : OutPoint) → AreMarked inputs mark old new → mark_at new q ≡ None → (mark_at old q ≡ None) × (¬ IsNamed inputs q)
 marked_keys inputs mark old new q marked none =
     elim (marked q) [
       | inl there ↦ absurd (let e : Some mark ≡ None = sym there.1 ∙ none in cc)
@@ -111,14 +112,14 @@ made_more mid new k v was now put tells q =
     elim (cases_Bool (same_point k q)) [
       | inl is ↦
           let here : mark_at new q ≡ Some (Holds v) = put q ∙ rw is refl in
-          subst (λ (m : Option Mark). Says m left right) (sym here) (insert_here q now k v (same-true k q is))
+          subst (λ (m : Option OutputMark). Says m left right) (sym here) (insert_here q now k v (same-true k q is))
       | inr isnt ↦
           let there : mark_at new q ≡ mark_at mid q = put q ∙ rw isnt refl in
           let stays : Says (mark_at mid q) left right = subst (Says (mark_at mid q) left) (sym (insert_other q now k v (apart k q isnt))) (tells q) in
-          subst (λ (m : Option Mark). Says m left right) (sym there) stays
+          subst (λ (m : Option OutputMark). Says m left right) (sym there) stays
     ]
 
-pub missed_more : (mid new : Marking) (k : OutPoint) (v : ℤ) (mark : Mark) (was now : Unspent) → Put k mark mid new → ((x : Option ℤ) → Says (mark_at mid k) None x → Says (Some mark) (Some v) x)
+pub missed_more : (mid new : Marking) (k : OutPoint) (v : ℤ) (mark : OutputMark) (was now : Unspent) → Put k mark mid new → ((x : Option ℤ) → Says (mark_at mid k) None x → Says (Some mark) (Some v) x)
     → finite.get was k ≡ None → Tells mid was now → Tells new (finite.insert was k v) now
 missed_more mid new k v mark was now put behind none tells q =
     let left = finite.get (finite.insert was k v) q in
@@ -130,11 +131,11 @@ missed_more mid new k v mark was now put behind none tells q =
           let before : Says (mark_at mid k) None (finite.get now k) = subst (λ (x : Option ℤ). Says (mark_at mid k) x (finite.get now k)) none (tells k) in
           let after : Says (Some mark) (Some v) (finite.get now k) = behind (finite.get now k) before in
           let moved : Says (Some mark) (Some v) right = subst (λ (p : OutPoint). Says (Some mark) (Some v) (finite.get now p)) e after in
-          subst (λ (m : Option Mark). Says m left right) (sym here) (subst (λ (x : Option ℤ). Says (Some mark) x right) (sym (insert_here q was k v e)) moved)
+          subst (λ (m : Option OutputMark). Says m left right) (sym here) (subst (λ (x : Option ℤ). Says (Some mark) x right) (sym (insert_here q was k v e)) moved)
       | inr isnt ↦
           let there : mark_at new q ≡ mark_at mid q = put q ∙ rw isnt refl in
           let stays : Says (mark_at mid q) left right = subst (λ (x : Option ℤ). Says (mark_at mid q) x right) (sym (insert_other q was k v (apart k q isnt))) (tells q) in
-          subst (λ (m : Option Mark). Says m left right) (sym there) stays
+          subst (λ (m : Option OutputMark). Says m left right) (sym there) stays
     ]
 
 -- what can be made wasn't there
@@ -160,7 +161,7 @@ not_made u w txid place (output ∷ outputs) k e le lt =
 abbrev pub HaveMarks : Hash256 → ℕ → Marking → Marking → Type 0
 HaveMarks txid count old new = (q : OutPoint) → mark_at new q ≡ None → (mark_at old q ≡ None) × (¬ ((q.txid ≡ txid) × (q.index < count)))
 
-pub have_more : (txid : Hash256) (i : ℕ) (mark : Mark) (old mid new : Marking) → Put (record { txid = txid; index = i }) mark mid new → HaveMarks txid i old mid → HaveMarks txid (i + 1) old new
+pub have_more : (txid : Hash256) (i : ℕ) (mark : OutputMark) (old mid new : Marking) → Put (record { txid = txid; index = i }) mark mid new → HaveMarks txid i old mid → HaveMarks txid (i + 1) old new
 have_more txid i mark old mid new put so_far q none =
     let k : OutPoint = record { txid = txid; index = i } in
     elim (cases_Bool (same_point k q)) [
@@ -238,7 +239,7 @@ block_tx_tells tx txid outputs old mid new was now next name outs (inr other) ma
 
 -- ---- marks that say nothing against a transaction
 
-pub at_touched : (P : Option Mark → Type 0) (marks : Marking) (tx : Tx) (txid : Hash256) (inputs : List TxIn) → P None → inputs ≡ tx.inputs → txid ≡ txid_of tx
+pub at_touched : (P : Option OutputMark → Type 0) (marks : Marking) (tx : Tx) (txid : Hash256) (inputs : List TxIn) → P None → inputs ≡ tx.inputs → txid ≡ txid_of tx
     → All (λ (input : TxIn). P (mark_at marks input.prev)) inputs → ((index : ℕ) → mark_at marks (record { txid = txid; index = index }) ≡ None) → (q : OutPoint) → IsTouchedBy tx q → P (mark_at marks q)
 at_touched P marks tx txid inputs none ins name all free q (inl named) =
     let k = named_any inputs q (subst (λ (l : List TxIn). IsNamed l q) (sym ins) named) in
@@ -266,7 +267,7 @@ pub named_stay : (old new : Marking) (txid : Hash256) (txids more : List Hash256
 named_stay old new txid txids more added same_marks named q some =
     grown txid q.txid txids more added (named q (ap (λ (m : Marking). is_some (mark_at m q)) (sym same_marks) ∙ some))
 
-pub named_put : (old new : Marking) (k : OutPoint) (mark : Mark) (txids more : List Hash256) → ((t : Hash256) → is_gone more t ≡ cond (same k.txid t) true (is_gone txids t)) → Put k mark old new → Named old txids → Named new more
+pub named_put : (old new : Marking) (k : OutPoint) (mark : OutputMark) (txids more : List Hash256) → ((t : Hash256) → is_gone more t ≡ cond (same k.txid t) true (is_gone txids t)) → Put k mark old new → Named old txids → Named new more
 named_put old new k mark txids more added put named q some =
     elim (cases_Bool (same_point k q)) [
       | inl is ↦
@@ -284,7 +285,7 @@ unnamed marks txids txid index named isnt =
       | inr none ↦ none_at (mark_at marks point) none
     ]
   where
-    none_at : (m : Option Mark) → is_some m ≡ false → m ≡ None
+    none_at : (m : Option OutputMark) → is_some m ≡ false → m ≡ None
     none_at None e = refl
     none_at (Some mark) e = absurd (false≢true (sym e))
 

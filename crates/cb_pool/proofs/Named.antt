@@ -2,23 +2,24 @@
 use Rattle.std.proofs.Common.{◌≡◌, ℕ, zero, suc, ◌<◌, ◌≤◌, true, false, List, [], ◌∷◌, ◌++◌, length, get_or, map, Some, None, Option, is_some, refl, sym, ℤ, ap, subst, ◌∙◌, arith, inl, inr}
 use Rattle.std.specs.Prelude.{◌≢◌, All, option_map, slice_get}
 use Rattle.cb_block.specs.Blocks.{HasOneCoinbase, texts}
-use Rattle.cb_tx.specs.Text.{tx_text}
+use Rattle.cb_block.specs.TxText.{tx_text}
 use Rattle.std.specs.List.{AllByRecursion}
 use Rattle.std.specs.Map.{lookup}
 use Rattle.std.proofs.lemmas.List.{length-append, length-map, map-append}
 use Rattle.std.proofs.lemmas.Bool.{cases_Bool, false≢true}
 use Rattle.cb_base.specs.declared.hash.Hash256.{Hash256}
-use Rattle.cb_tx.specs.declared.tx.Tx.{Tx}
-use Rattle.cb_tx.specs.declared.tx.OutPoint.{OutPoint}
-use Rattle.cb_tx.specs.Rules.{IsCoinbase, IsCoinbaseInputs, MeetsFirst, MeetsRules}
-use Rattle.cb_tx.specs.declared.tx.TxIn.{TxIn}
+use Rattle.cb_block.specs.declared.tx.Tx.{Tx}
+use Rattle.cb_block.specs.declared.tx.OutPoint.{OutPoint}
+use Rattle.cb_block.specs.TxRules.{IsCoinbase, IsCoinbaseInputs, MeetsFirst, MeetsRules}
+use Rattle.cb_block.specs.declared.tx.TxIn.{TxIn}
 use Rattle.cb_ledger.specs.Undo.{changed, changes_of}
 use Rattle.cb_ledger.specs.Unspent.{Unspent}
 use Rattle.cb_pool.specs.Leaving.{AreMembers, after_tx, after_txs}
 use Rattle.cb_pool.proofs.Spent.{after_more}
 use Rattle.cb_pool.specs.declared.members.Pooled.{Pooled}
 use Rattle.cb_pool.specs.Listing.{txs_of}
-use Rattle.cb_pool.specs.Rules.{IsUntold, StandsAlone, is_named_in, named_in, same, txid_of}
+use Rattle.cb_pool.specs.Rules.{IsUntold, StandsAlone, is_named_in, named_in, same}
+use Rattle.cb_block.specs.Txid.{txid_of}
 
 abbrev pub AreNamed : List (Hash256 × Pooled) → Type 0
 AreNamed = AllByRecursion (λ (entry : Hash256 × Pooled). entry.0 ≡ txid_of entry.1.tx)

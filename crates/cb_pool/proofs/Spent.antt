@@ -9,11 +9,11 @@ use Rattle.cb_base.specs.declared.fault.Fault.{Fault}
 use Rattle.cb_base.specs.declared.fault.Fault.TheVariants.{NoInput, Overspent, Remade}
 use Rattle.cb_base.specs.declared.hash.Hash256.{Hash256}
 use Rattle.cb_base.proofs.Fields.{bind_ok, ok_is}
-use Rattle.cb_tx.specs.declared.tx.OutPoint.{OutPoint}
-use Rattle.cb_tx.specs.declared.tx.TxIn.{TxIn}
-use Rattle.cb_tx.specs.declared.tx.TxOut.{TxOut}
-use Rattle.cb_tx.specs.declared.tx.Tx.{Tx}
-use Rattle.cb_tx.specs.Rules.{value_sum}
+use Rattle.cb_block.specs.declared.tx.OutPoint.{OutPoint}
+use Rattle.cb_block.specs.declared.tx.TxIn.{TxIn}
+use Rattle.cb_block.specs.declared.tx.TxOut.{TxOut}
+use Rattle.cb_block.specs.declared.tx.Tx.{Tx}
+use Rattle.cb_block.specs.TxRules.{value_sum}
 use Rattle.cb_ledger.specs.Spend.{is_coinbase, make_outputs, spend, spend_inputs, spend_tx, take_output}
 use Rattle.cb_ledger.specs.Unspent.{Unspent}
 use Rattle.cb_ledger.proofs.Sums.{taken, test_ok}
@@ -21,7 +21,8 @@ use Rattle.cb_ledger.proofs.Txs.{is_coinbase-true, spend-append, tx_other, tx_ov
 use Rattle.cb_pool.specs.declared.members.Pooled.{Pooled}
 use Rattle.cb_pool.specs.Leaving.{after_tx, after_txs, with_outputs, without_inputs}
 use Rattle.cb_pool.specs.Listing.{txs_of}
-use Rattle.cb_pool.specs.Rules.{StandsAlone, txid_of}
+use Rattle.cb_pool.specs.Rules.{StandsAlone}
+use Rattle.cb_block.specs.Txid.{txid_of}
 
 -- ---- what is left
 

@@ -5,7 +5,7 @@ use Rattle.std.proofs.lemmas.Bool.{false≢true}
 use Rattle.std.proofs.lemmas.List.{append-nil, map-append}
 use Rattle.cb_base.specs.declared.fault.Fault.{Fault}
 use Rattle.cb_base.specs.declared.fault.Fault.TheVariants.{Memory, Truncated, NotShortest, TooMany, BadTx, BadRoot, Mutated, Size64, Empty, BadCoinbase, BadWork, BadMagic, Oversize, Trailing, BadBool, BadIndex, WrongCount, Known, NoInput, PoolFull, Overspent, Remade, NoParent, BadParent, JournalFull, NotEnabled, Full, NoMore}
-use Rattle.cb_tx.specs.declared.tx.Tx.{Tx}
+use Rattle.cb_block.specs.declared.tx.Tx.{Tx}
 use Rattle.cb_ledger.specs.Spend.{spend}
 use Rattle.cb_ledger.specs.Unspent.{Unspent}
 use Rattle.cb_pool.specs.declared.members.Pooled.{Pooled}

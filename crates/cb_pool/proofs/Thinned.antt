@@ -9,8 +9,8 @@ use Rattle.std.proofs.lemmas.List.{append-nil, length-append, map-append, take_a
 use lib.Pointwise.{bytes_decides}
 use Rattle.cb_base.proofs.Fields.{ok_is}
 use Rattle.cb_base.specs.declared.hash.Hash256.{Hash256}
-use Rattle.cb_tx.specs.declared.tx.OutPoint.{OutPoint}
-use Rattle.cb_tx.specs.declared.tx.Tx.{Tx}
+use Rattle.cb_block.specs.declared.tx.OutPoint.{OutPoint}
+use Rattle.cb_block.specs.declared.tx.Tx.{Tx}
 use Rattle.cb_ledger.specs.Spend.{spend, spend_tx}
 use Rattle.cb_ledger.specs.Touched.{IsNamed}
 use Rattle.cb_ledger.specs.Undo.{changed, changes_of}
@@ -18,13 +18,14 @@ use Rattle.cb_ledger.specs.Unspent.{Unspent, outpoint_cmp}
 use Rattle.cb_ledger.proofs.Changes.{over, value_is}
 use Rattle.cb_ledger.proofs.Outpoints.{maps_same}
 use Rattle.cb_ledger.proofs.Txs.{spend-append}
-use Rattle.cb_pool.specs.declared.marks.Mark.{Mark}
-use Rattle.cb_pool.specs.declared.marks.Mark.TheVariants.{Gone, Holds, Same, Unknown}
+use Rattle.cb_pool.specs.declared.marks.OutputMark.{OutputMark}
+use Rattle.cb_pool.specs.declared.marks.OutputMark.TheVariants.{Gone, Holds, Same, Unknown}
 use Rattle.cb_pool.specs.declared.members.Pooled.{Pooled}
 use Rattle.cb_pool.specs.Folding.{Refolds, Took, old_offer}
 use Rattle.cb_pool.specs.Leaving.{after_tx, after_txs, without_inputs}
 use Rattle.cb_pool.specs.Listing.{Listing, NamesDiffer, txs_of}
-use Rattle.cb_pool.specs.Rules.{Applies, StandsAlone, is_named_in, named_in, same, txid_of}
+use Rattle.cb_pool.specs.Rules.{Applies, StandsAlone, is_named_in, named_in, same}
+use Rattle.cb_block.specs.Txid.{txid_of}
 use Rattle.cb_pool.specs.Staying.{Agree, Covers, IsLevel, Marking, Moves, Says, StaysOf, Tells, Turned, is_gone, mark_at, same_point, staying}
 use Rattle.cb_pool.specs.Touching.{IsTouched, IsTouchedBy}
 use Rattle.cb_pool.proofs.LawLemmas.{alone_in, apart_in, first_of, fresh_behind, needs, same_symm, spend_split}
@@ -112,21 +113,21 @@ untouched_by u tx q other =
 same_by : (u v : Unspent) (tx : Tx) (q : OutPoint) → finite.get u q ≡ finite.get v q → finite.get (after_tx u tx) q ≡ finite.get (after_tx v tx) q
 same_by u v tx q e = same_with q (without_inputs u tx.inputs) (without_inputs v tx.inputs) (txid_of tx) 0 tx.outputs (same_without q u v tx.inputs e)
 
-level_says : (mark : Option Mark) (x y : Option ℤ) → IsLevel mark → Says mark x y → x ≡ y
+level_says : (mark : Option OutputMark) (x y : Option ℤ) → IsLevel mark → Says mark x y → x ≡ y
 level_says None x y level e = e
 level_says (Some Gone) x y level e = absurd level
 level_says (Some (Holds v)) x y level e = absurd level
 level_says (Some Same) x y level e = e
 level_says (Some Unknown) x y level e = absurd level
 
-says_level : (mark : Option Mark) (x y : Option ℤ) → IsLevel mark → x ≡ y → Says mark x y
+says_level : (mark : Option OutputMark) (x y : Option ℤ) → IsLevel mark → x ≡ y → Says mark x y
 says_level None x y level e = e
 says_level (Some Gone) x y level e = absurd level
 says_level (Some (Holds v)) x y level e = absurd level
 says_level (Some Same) x y level e = e
 says_level (Some Unknown) x y level e = absurd level
 
-level_cases : (mark : Option Mark) → IsLevel mark ⊎ (¬ IsLevel mark)
+level_cases : (mark : Option OutputMark) → IsLevel mark ⊎ (¬ IsLevel mark)
 level_cases None = inl tt
 level_cases (Some Gone) = inr (λ h. h)
 level_cases (Some (Holds v)) = inr (λ h. h)
@@ -196,7 +197,7 @@ run_leaves : (u after : Unspent) (marks more : Marking) (list rest done kept : L
 run_leaves u after marks more list rest done kept pooled q run ok alone named gone moves =
     let tx = pooled.tx in
     let step = next_of u run.was done rest pooled ok run.spent in
-    let none : finite.get run.now q ≡ None = subst (λ (m : Option Mark). Says m (finite.get run.was q) (finite.get run.now q)) gone (run.tells q) in
+    let none : finite.get run.now q ≡ None = subst (λ (m : Option OutputMark). Says m (finite.get run.was q) (finite.get run.now q)) gone (run.tells q) in
     let refused : ¬ Applies after (txs_of kept) tx = λ applies.
     let whole = ok_at (spend after (txs_of kept ++ tx ∷ [])) applies.spends in
     let parts = spend_split after whole.0 (txs_of kept) (tx ∷ []) whole.1 in

@@ -7,18 +7,19 @@ use Rattle.std.specs.Map.{keys_of, lookup}
 use Rattle.std.proofs.lemmas.Bool.{cases_Bool, false≢true}
 use Rattle.std.proofs.lemmas.List.{append-nil}
 use Rattle.cb_base.specs.declared.hash.Hash256.{Hash256}
-use Rattle.cb_tx.specs.declared.tx.OutPoint.{OutPoint}
-use Rattle.cb_tx.specs.declared.tx.Tx.{Tx}
-use Rattle.cb_tx.proofs.Repeats.{same-refl, same-true}
+use Rattle.cb_block.specs.declared.tx.OutPoint.{OutPoint}
+use Rattle.cb_block.specs.declared.tx.Tx.{Tx}
+use Rattle.cb_block.proofs.Repeats.{same-refl, same-true}
 use Rattle.cb_ledger.specs.Undo.{changed, changes_of}
 use Rattle.cb_ledger.specs.Unspent.{Unspent, outpoint_cmp}
 use Rattle.cb_ledger.proofs.Changes.{over, value_is}
 use Rattle.cb_ledger.proofs.Outpoints.{maps_same}
-use Rattle.cb_pool.specs.declared.marks.Mark.{Mark}
+use Rattle.cb_pool.specs.declared.marks.OutputMark.{OutputMark}
 use Rattle.cb_pool.specs.declared.members.Pooled.{Pooled}
 use Rattle.cb_pool.specs.Leaving.{AreMembers, IsChanged, after_txs}
 use Rattle.cb_pool.specs.Listing.{AreNumbered, Differ, txs_of}
-use Rattle.cb_pool.specs.Rules.{StandsAlone, txid_of}
+use Rattle.cb_pool.specs.Rules.{StandsAlone}
+use Rattle.cb_block.specs.Txid.{txid_of}
 use Rattle.cb_pool.specs.Staying.{Agree, Covers, Marking, is_gone, mark_at, same_point, staying}
 use Rattle.cb_pool.specs.Touching.{IsTouched}
 use Rattle.cb_pool.proofs.Named.{AreNamed, pooled_of}
@@ -123,7 +124,7 @@ members_out entries next coins others changes marks gone members next_is agree c
       after = λ u. maps_same (changed u (changes_of others)) (after_txs u (txs_of kept)) (λ q. value_is u others q ∙ at u q);
     })
   where
-    nothing : (m : Option Mark) → is_some m ≡ false → m ≡ None
+    nothing : (m : Option OutputMark) → is_some m ≡ false → m ≡ None
     nothing None e = refl
     nothing (Some mark) e = absurd (false≢true (sym e))
 

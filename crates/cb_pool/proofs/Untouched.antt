@@ -9,13 +9,13 @@ use Rattle.cb_base.specs.Reading.{◌>>=◌}
 use Rattle.cb_base.specs.declared.fault.Fault.TheVariants.{Overspent, Remade}
 use Rattle.cb_base.specs.declared.hash.Hash256.{Hash256}
 use Rattle.cb_base.proofs.Fields.{bind_ok, ok_is}
-use Rattle.cb_tx.specs.declared.tx.OutPoint.{OutPoint}
-use Rattle.cb_tx.specs.declared.tx.Tx.{Tx}
-use Rattle.cb_tx.specs.declared.tx.TxIn.{TxIn}
-use Rattle.cb_tx.specs.declared.tx.TxOut.{TxOut}
-use Rattle.cb_tx.specs.Rules.{value_sum}
+use Rattle.cb_block.specs.declared.tx.OutPoint.{OutPoint}
+use Rattle.cb_block.specs.declared.tx.Tx.{Tx}
+use Rattle.cb_block.specs.declared.tx.TxIn.{TxIn}
+use Rattle.cb_block.specs.declared.tx.TxOut.{TxOut}
+use Rattle.cb_block.specs.TxRules.{value_sum}
 use Rattle.cb_ledger.specs.Spend.{is_coinbase, make_outputs, spend, spend_inputs, spend_tx, take_output}
-use Rattle.cb_tx.proofs.Repeats.{same}
+use Rattle.cb_block.proofs.Repeats.{same}
 use Rattle.cb_ledger.specs.Undo.{changed, changes_of}
 use Rattle.cb_ledger.proofs.Changes.{over, value_is}
 use Rattle.cb_ledger.specs.Touched.{IsMade, IsNamed, IsSpent}
@@ -24,7 +24,8 @@ use Rattle.cb_ledger.proofs.Outpoints.{get_insert, get_remove, is_same, is_same-
 use Rattle.cb_ledger.proofs.Sums.{taken, test_ok}
 use Rattle.cb_ledger.proofs.Touching.{txs_keep}
 use Rattle.cb_pool.specs.Leaving.{IsChanged, after_tx, after_txs, with_outputs, without_inputs}
-use Rattle.cb_pool.specs.Rules.{StandsAlone, txid_of}
+use Rattle.cb_pool.specs.Rules.{StandsAlone}
+use Rattle.cb_block.specs.Txid.{txid_of}
 use Rattle.cb_pool.specs.Touching.{AreApart, IsTouched, IsTouchedBy}
 use Rattle.cb_pool.proofs.Left.{insert_other, without_named, without_other}
 use Rattle.cb_pool.proofs.Spent.{not_coinbase, ok_at}

@@ -1,7 +1,6 @@
 pub mod Folding
 pub mod Leaving
 pub mod Listing
-pub mod Matching
 pub mod Rules
 pub mod Staying
 pub mod Touching

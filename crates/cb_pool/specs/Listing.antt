@@ -2,9 +2,10 @@
 use Rattle.std.specs.Prelude.{◌≡◌, ◌≢◌, ◌<◌, false, ℕ, ◌+◌, ⊤, min, nat_le, List, [], ◌∷◌, ◌++◌, map, filter}
 use Rattle.std.specs.List.{AllByRecursion}
 use Rattle.cb_base.specs.declared.hash.Hash256.{Hash256}
-use Rattle.cb_tx.specs.declared.tx.Tx.{Tx}
+use Rattle.cb_block.specs.declared.tx.Tx.{Tx}
 use Rattle.cb_pool.specs.declared.members.Pooled.{Pooled}
-use Rattle.cb_pool.specs.Rules.{is_named_in, txid_of}
+use Rattle.cb_pool.specs.Rules.{is_named_in}
+use Rattle.cb_block.specs.Txid.{txid_of}
 
 -- the transactions in order with their numbers, and the number of the next one
 pub record Listing : Type 0 where

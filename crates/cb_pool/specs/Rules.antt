@@ -4,16 +4,12 @@ use Rattle.std.specs.Cmp.Lexicographic.{pointwise}
 use Rattle.cb_base.specs.declared.fault.Fault.{Fault}
 use Rattle.cb_base.specs.declared.fault.Fault.TheVariants.{BadCoinbase, BadTx, Known, NoInput, Overspent, PoolFull, Remade, Size64}
 use Rattle.cb_base.specs.declared.hash.Hash256.{Hash256}
-use Rattle.cb_base.specs.DoubleHash.{double_hash}
-use Rattle.cb_tx.specs.declared.tx.Tx.{Tx}
-use Rattle.cb_tx.specs.Rules.{IsCoinbase, IsLeastBroken, MeetsFirst, MeetsRules}
-use Rattle.cb_tx.specs.Text.{tx_text}
+use Rattle.cb_block.specs.declared.tx.Tx.{Tx}
+use Rattle.cb_block.specs.TxRules.{IsCoinbase, IsLeastBroken, MeetsFirst, MeetsRules}
+use Rattle.cb_block.specs.TxText.{tx_text}
 use Rattle.cb_ledger.specs.Spend.{spend}
 use Rattle.cb_ledger.specs.Unspent.{Unspent}
-
--- a transaction's txid
-abbrev pub txid_of : Tx → Hash256
-txid_of tx = double_hash (tx_text tx)
+use Rattle.cb_block.specs.Txid.{txid_of}
 
 abbrev pub same : Hash256 → Hash256 → Bool
 same a b = pointwise nat_eq a.0 b.0

@@ -6,35 +6,36 @@ use Rattle.std.specs.FinMap as finite
 use Rattle.std.specs.List.{list_any}
 use Rattle.std.specs.Map.{lookup}
 use Rattle.cb_base.specs.declared.hash.Hash256.{Hash256}
-use Rattle.cb_tx.specs.declared.tx.OutPoint.{OutPoint}
-use Rattle.cb_tx.specs.declared.tx.TxIn.{TxIn}
-use Rattle.cb_tx.specs.declared.tx.Tx.{Tx}
+use Rattle.cb_block.specs.declared.tx.OutPoint.{OutPoint}
+use Rattle.cb_block.specs.declared.tx.TxIn.{TxIn}
+use Rattle.cb_block.specs.declared.tx.Tx.{Tx}
 use Rattle.cb_ledger.specs.Spend.{is_coinbase, spend, spend_tx}
 use Rattle.cb_ledger.specs.Touched.{IsNamed}
 use Rattle.cb_ledger.specs.Undo.{changed, changes_of}
 use Rattle.cb_ledger.specs.Unspent.{Unspent}
-use Rattle.cb_pool.specs.declared.marks.Mark.{Mark}
-use Rattle.cb_pool.specs.declared.marks.Mark.TheVariants.{Gone, Holds, Same, Unknown}
+use Rattle.cb_pool.specs.declared.marks.OutputMark.{OutputMark}
+use Rattle.cb_pool.specs.declared.marks.OutputMark.TheVariants.{Gone, Holds, Same, Unknown}
 use Rattle.cb_pool.specs.declared.members.Pooled.{Pooled}
 use Rattle.cb_pool.specs.Folding.{Refolds}
 use Rattle.cb_pool.specs.Leaving.{after_txs}
 use Rattle.cb_pool.specs.Listing.{txs_of}
-use Rattle.cb_pool.specs.Rules.{same, txid_of}
+use Rattle.cb_pool.specs.Rules.{same}
+use Rattle.cb_block.specs.Txid.{txid_of}
 use Rattle.cb_pool.specs.Touching.{IsTouchedBy}
 
 abbrev pub Marking : Type 0
-Marking = List (OutPoint × Mark)
+Marking = List (OutPoint × OutputMark)
 
 abbrev pub same_point : OutPoint → OutPoint → Bool
 same_point a b = pointwise nat_eq a.txid.0 b.txid.0 && (a.index == b.index)
 
 -- the mark of an output
-abbrev pub mark_at : Marking → OutPoint → Option Mark
+abbrev pub mark_at : Marking → OutPoint → Option OutputMark
 mark_at marks point = lookup (same_point point) marks
 
 -- What a mark says of an output's value in one UTXO set and in another. Without a mark it is the
 -- same.
-abbrev pub Says : Option Mark → Option ℤ → Option ℤ → Type 0
+abbrev pub Says : Option OutputMark → Option ℤ → Option ℤ → Type 0
 Says None was now = was ≡ now
 Says (Some Gone) was now = now ≡ None
 Says (Some (Holds value)) was now = now ≡ Some value
@@ -47,7 +48,7 @@ Tells marks was now =
     (point : OutPoint) → Says (mark_at marks point) (finite.get was point) (finite.get now point)
 
 -- no mark, or one that says that nothing differs
-abbrev pub IsLevel : Option Mark → Type 0
+abbrev pub IsLevel : Option OutputMark → Type 0
 IsLevel None = ⊤
 IsLevel (Some Gone) = ⊥
 IsLevel (Some (Holds value)) = ⊥
@@ -55,7 +56,7 @@ IsLevel (Some Same) = ⊤
 IsLevel (Some Unknown) = ⊥
 
 -- the outputs of these inputs have the mark, and all others the ones that they had
-abbrev pub AreMarked : List TxIn → Mark → Marking → Marking → Type 0
+abbrev pub AreMarked : List TxIn → OutputMark → Marking → Marking → Type 0
 AreMarked inputs mark old new =
     (point : OutPoint)
     → (IsNamed inputs point × (mark_at new point ≡ Some mark))

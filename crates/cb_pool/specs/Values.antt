@@ -1,8 +1,8 @@
 -- What outputs are worth after a pool's transactions.
 use Rattle.std.specs.Prelude.{◌≡◌, ℤ, List, Option, Ok}
 use Rattle.std.specs.FinMap as map
-use Rattle.cb_tx.specs.declared.tx.OutPoint.{OutPoint}
-use Rattle.cb_tx.specs.declared.tx.Tx.{Tx}
+use Rattle.cb_block.specs.declared.tx.OutPoint.{OutPoint}
+use Rattle.cb_block.specs.declared.tx.Tx.{Tx}
 use Rattle.cb_ledger.specs.Spend.{spend}
 use Rattle.cb_ledger.specs.Unspent.{Unspent}
 

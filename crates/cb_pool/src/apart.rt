@@ -1,18 +1,17 @@
 ghost use Rattle.std.specs.Prelude.{◌≡◌, ◌<◌, ◌≤◌, ◌^◌, ℕ, false, length, All, IsTrue};
 ghost use Rattle.std.specs.FinMap as map;
-ghost use Rattle.cb_tx.specs.declared.tx.OutPoint.{OutPoint};
+ghost use Rattle.cb_block.specs.declared.tx.OutPoint.{OutPoint};
 ghost use Rattle.cb_ledger.specs.Touched.{IsNamed};
 ghost use Rattle.cb_ledger.specs.Undo.{changed, changes_of};
 ghost use Rattle.cb_ledger.specs.Unspent.{Unspent};
 ghost use Rattle.cb_pool.specs.Leaving.{IsChanged};
-ghost use Rattle.cb_pool.specs.Rules.{txid_of};
+ghost use Rattle.cb_block.specs.Txid.{txid_of};
 ghost use Rattle.cb_pool.specs.Touching.{AreApart, IsTouchedBy};
 ghost use Rattle.cb_pool.specs.Listing.{txs_of};
 
 use crate::pool::Pool;
 use cb_base::{Hash256, Seed};
-use cb_block::SoundBlock;
-use cb_tx::{OutPoint, Tx, TxIn, TxOut};
+use cb_block::{OutPoint, SoundBlock, Tx, TxIn, TxOut};
 use std::collections::HashMap;
 
 /// Whether `coins` has no output that one of these inputs spends.

@@ -2,12 +2,12 @@ ghost use Rattle.std.specs.Prelude.{◌≡◌, ◌⊎◌, ◌<◌, length, slice
 ghost use Rattle.cb_base.specs.declared.fault.Fault.TheVariants.{Memory};
 ghost use Rattle.cb_block.specs.Blocks.{MeetsBlockRules};
 ghost use Rattle.cb_pool.specs.Leaving.{touched_by};
-ghost use Rattle.cb_pool.specs.Rules.{IsUntold, RefusesAlone, StandsAlone, txid_of};
+ghost use Rattle.cb_pool.specs.Rules.{IsUntold, RefusesAlone, StandsAlone};
+ghost use Rattle.cb_block.specs.Txid.{txid_of};
 
 use cb_base::{Fault, Hash256, Shared};
-use cb_block::SoundBlock;
+use cb_block::{SoundBlock, Tx, check_tx};
 use cb_compact::NamedTx;
-use cb_tx::{Tx, check_tx};
 use std::alloc::{AllocError, Global};
 use std::marker::Model;
 
@@ -22,11 +22,12 @@ pub struct Candidate {
 
 impl Model for Candidate {
     ghost use Rattle.std.specs.Prelude.{◌≡◌};
-    ghost use Rattle.cb_tx.specs.declared.tx.Tx.{Tx};
+    ghost use Rattle.cb_block.specs.declared.tx.Tx.{Tx};
 
     ghost Value = { Tx };
 
-    ghost use Rattle.cb_pool.specs.Rules.{StandsAlone, txid_of};
+    ghost use Rattle.cb_pool.specs.Rules.{StandsAlone};
+    ghost use Rattle.cb_block.specs.Txid.{txid_of};
 
     ghost view = { λ candidate. candidate.tx };
 

@@ -1,15 +1,16 @@
 ghost use Rattle.std.specs.Prelude.{◌≡◌, ◌⊎◌, ◌<◌, ◌↔◌, ◌^◌, length, Any, Err, IsTrue, MatchOption, Ok, ⊤, if◌then◌else◌};
 ghost use Rattle.cb_base.specs.declared.fault.Fault.TheVariants.{NoInput, Overspent, Remade};
-ghost use Rattle.cb_tx.specs.Rules.{SpendsTwice};
+ghost use Rattle.cb_block.specs.TxRules.{SpendsTwice};
 ghost use Rattle.cb_ledger.specs.Spend.{make_outputs as outputs_made, spend_inputs as inputs_spent, spend_tx};
 ghost use Rattle.cb_ledger.specs.Undo.{changed, changes_of};
 ghost use Rattle.cb_pool.specs.Leaving.{after_tx, with_outputs, without_inputs};
-ghost use Rattle.cb_pool.specs.Rules.{StandsAlone, txid_of};
+ghost use Rattle.cb_pool.specs.Rules.{StandsAlone};
+ghost use Rattle.cb_block.specs.Txid.{txid_of};
 
 use crate::coins::value_of;
 use cb_base::{Fault, Hash256, Seed};
+use cb_block::{OutPoint, Tx, TxIn, TxOut};
 use cb_ledger::{Ledger, sum_of};
-use cb_tx::{OutPoint, Tx, TxIn, TxOut};
 use std::collections::HashMap;
 
 /// The sum of the values that the inputs spend, or `None` if one of the outputs isn't unspent. The

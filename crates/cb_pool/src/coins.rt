@@ -6,8 +6,8 @@ ghost use Rattle.cb_ledger.specs.Unspent.{Unspent};
 ghost use Rattle.cb_pool.specs.Leaving.{with_outputs, without_inputs};
 
 use cb_base::{Hash256, Seed};
+use cb_block::{OutPoint, TxIn, TxOut};
 use cb_ledger::Ledger;
-use cb_tx::{OutPoint, TxIn, TxOut};
 use std::collections::HashMap;
 
 /// The value of an output in `ledger` with the changes `coins`, or `None` if it isn't unspent

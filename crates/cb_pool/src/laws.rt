@@ -1,7 +1,7 @@
 ghost use Rattle.std.specs.Prelude.{◌≡◌, ◌≢◌, ◌++◌, ◌∷◌, [], List, All, IsOk, None, Ok};
 ghost use Rattle.std.specs.FinMap as finite;
-ghost use Rattle.cb_tx.specs.declared.tx.OutPoint.{OutPoint};
-ghost use Rattle.cb_tx.specs.declared.tx.Tx.{Tx};
+ghost use Rattle.cb_block.specs.declared.tx.OutPoint.{OutPoint};
+ghost use Rattle.cb_block.specs.declared.tx.Tx.{Tx};
 ghost use Rattle.cb_ledger.specs.Spend.{spend};
 ghost use Rattle.cb_ledger.specs.Touched.{IsMade, IsNamed};
 ghost use Rattle.cb_ledger.specs.Unspent.{Unspent};

@@ -10,7 +10,6 @@ mod coins;
 mod laws;
 mod marks;
 mod members;
-mod pairs;
 mod pool;
 mod refolding;
 mod thinning;
@@ -21,7 +20,6 @@ pub use laws::{
     stays_as_it_is, stays_behind_others,
 };
 pub use members::MOST_TXS;
-pub use pairs::{Pairs, ShortIds};
 pub use pool::Pool;
 pub use refolding::Refolding;
 pub use thinning::Thinning;

@@ -1,14 +1,14 @@
 ghost use Rattle.std.specs.Prelude.{◌≡◌, ℕ, ℤ, Option, ◌⊎◌, ◌<◌, ◌^◌, ⊤, if◌then◌else◌, false, length, All, Any, IsOkUnless, IsTrue, None, OnOk, Ok, Some, [], is_some};
 ghost use Rattle.cb_base.specs.declared.fault.Fault.TheVariants.{Memory};
-ghost use Rattle.cb_tx.specs.declared.tx.OutPoint.{OutPoint};
+ghost use Rattle.cb_block.specs.declared.tx.OutPoint.{OutPoint};
 ghost use Rattle.cb_ledger.specs.Spend.{make_outputs as outputs_made};
 ghost use Rattle.cb_ledger.specs.Unspent.{Unspent};
 ghost use Rattle.cb_pool.specs.Leaving.{with_outputs};
 ghost use Rattle.cb_pool.specs.Staying.{AreMarked, IsLevel, Says, Tells, mark_at, same_point};
-ghost use Rattle.cb_pool.specs.declared.marks.Mark.TheVariants.{Gone};
+ghost use Rattle.cb_pool.specs.declared.marks.OutputMark.TheVariants.{Gone};
 
 use cb_base::{Fault, Hash256, Seed};
-use cb_tx::{OutPoint, TxIn, TxOut};
+use cb_block::{OutPoint, TxIn, TxOut};
 use std::alloc::Global;
 use std::collections::{HashMap, HashSet};
 use std::marker::Model;
@@ -16,7 +16,7 @@ use std::marker::Model;
 /// How an output differs between two UTXO sets: the one behind the pool's transactions so far, and
 /// the one behind those of them that stay, with a block's before them.
 #[derive(Clone, Copy)]
-pub(crate) enum Mark {
+pub(crate) enum OutputMark {
     // It isn't unspent in the new one.
     Gone,
     // It is unspent in the new one and has this value.
@@ -29,15 +29,15 @@ pub(crate) enum Mark {
 
 /// The outputs at which two UTXO sets may differ, with their marks. Contracts see the list of both.
 #[derive(Drop)]
-pub(crate) struct Marks {
-    pub(crate) points: HashMap<OutPoint, Mark, Seed>,
+pub(crate) struct OutputMarks {
+    pub(crate) points: HashMap<OutPoint, OutputMark, Seed>,
     // The txids of all these outputs.
     txids: HashSet<Hash256, Seed>,
 }
 
-impl Model for Marks {
+impl Model for OutputMarks {
     ghost use Rattle.std.specs.Prelude.{◌≡◌, true, is_some};
-    ghost use Rattle.cb_tx.specs.declared.tx.OutPoint.{OutPoint};
+    ghost use Rattle.cb_block.specs.declared.tx.OutPoint.{OutPoint};
     ghost use Rattle.cb_pool.specs.Staying.{Marking};
 
     ghost Value = { Marking };
@@ -53,37 +53,37 @@ impl Model for Marks {
 
 /// What becomes of the mark of an output that was not there and that a transaction of the pool
 /// makes in the old UTXO set alone.
-fn mark_behind(mark: Option<Mark>, value: i64) -> Mark
+fn mark_behind(mark: Option<OutputMark>, value: i64) -> OutputMark
     ensures { (now : Option ℤ) → Says mark None now → Says (Some result) (Some value) now }
 {
     match mark {
-        Some(Mark::Holds(held)) if held == value => Mark::Same,
-        Some(Mark::Holds(held)) => Mark::Holds(held),
-        Some(Mark::Unknown) => Mark::Unknown,
-        _ => Mark::Gone,
+        Some(OutputMark::Holds(held)) if held == value => OutputMark::Same,
+        Some(OutputMark::Holds(held)) => OutputMark::Holds(held),
+        Some(OutputMark::Unknown) => OutputMark::Unknown,
+        _ => OutputMark::Gone,
     }
 }
 
-impl Marks {
+impl OutputMarks {
     /// No marks. The tables have this seed.
-    pub(crate) fn new(alloc: Global, seed: Seed) -> Marks
+    pub(crate) fn new(alloc: Global, seed: Seed) -> OutputMarks
         ensures { result ≡ [] }
     {
-        Marks {
+        OutputMarks {
             points: HashMap::with_hasher(alloc, seed),
             txids: HashSet::with_hasher(alloc, seed),
         }
     }
 
     /// The mark of an output.
-    pub(crate) fn mark_of(&self, point: &OutPoint) -> Option<Mark>
+    pub(crate) fn mark_of(&self, point: &OutPoint) -> Option<OutputMark>
         ensures { result ≡ mark_at self.now point.now }
     {
         self.points.get(point).copied()
     }
 
     /// Marks an output. Fails only with `Fault::Memory`.
-    fn put(&mut self, point: OutPoint, mark: Mark) -> Result<(), Fault>
+    fn put(&mut self, point: OutPoint, mark: OutputMark) -> Result<(), Fault>
         ensures put { OnOk result ((other : OutPoint) → mark_at self.new other
             ≡ (if same_point point other then Some mark else mark_at self.old other)) }
         ensures memory { IsOkUnless result Memory }
@@ -107,7 +107,7 @@ impl Marks {
     {
         inputs.iter().all(|input| match self.mark_of(&input.prev) {
             None => true,
-            Some(Mark::Same) => true,
+            Some(OutputMark::Same) => true,
             Some(_) => false,
         })
     }
@@ -118,7 +118,7 @@ impl Marks {
             → Any (λ input. mark_at self.now input.prev ≡ Some Gone) inputs.now }
     {
         inputs.iter().any(|input| match self.mark_of(&input.prev) {
-            Some(Mark::Gone) => true,
+            Some(OutputMark::Gone) => true,
             _ => false,
         })
     }
@@ -138,7 +138,7 @@ impl Marks {
     }
 
     /// Marks the outputs that these inputs spend. Fails only with `Fault::Memory`.
-    pub(crate) fn put_inputs(&mut self, inputs: &[TxIn], mark: Mark) -> Result<(), Fault>
+    pub(crate) fn put_inputs(&mut self, inputs: &[TxIn], mark: OutputMark) -> Result<(), Fault>
         ensures marked { OnOk result (AreMarked inputs.now mark self.old self.new) }
         ensures memory { IsOkUnless result Memory }
     {
@@ -158,7 +158,7 @@ impl Marks {
     {
         let mut index = 0u32;
         for output in outputs {
-            self.put(OutPoint { txid, index }, Mark::Holds(output.value))?;
+            self.put(OutPoint { txid, index }, OutputMark::Holds(output.value))?;
             index += 1;
         }
         Ok(())

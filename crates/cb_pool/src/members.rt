@@ -3,7 +3,8 @@ ghost use Rattle.cb_base.specs.declared.fault.Fault.TheVariants.{Memory};
 ghost use Rattle.cb_ledger.specs.Spend.{spend};
 ghost use Rattle.cb_pool.specs.Leaving.{touched_by};
 ghost use Rattle.cb_pool.specs.Listing.{NamesDiffer, txs_of};
-ghost use Rattle.cb_pool.specs.Rules.{Applies, Refuses, StandsAlone, is_named_in, named_in, txid_of};
+ghost use Rattle.cb_pool.specs.Rules.{Applies, Refuses, StandsAlone, is_named_in, named_in};
+ghost use Rattle.cb_block.specs.Txid.{txid_of};
 ghost use Rattle.cb_pool.specs.Touching.{AreApart};
 ghost use Rattle.cb_pool.specs.Values.{IsValueAfter};
 
@@ -12,9 +13,9 @@ use crate::candidate::Candidate;
 use crate::checking::fault_over;
 use crate::coins::{make_outputs, spend_outputs, value_of};
 use cb_base::{Fault, Hash256, Seed};
+use cb_block::{OutPoint, Tx};
 use cb_compact::NamedTx;
 use cb_ledger::Ledger;
-use cb_tx::{OutPoint, Tx};
 use indexmap::IndexMap;
 use indexmap::map::IntoValues;
 use std::alloc::{AllocError, Global};
@@ -47,7 +48,6 @@ impl Clone for Pooled {
 /// The transactions of a pool by their txids, in order. `coins` has each output that they spend or
 /// make: its value after all of them, or `None` if it is spent. Contracts see the list of the
 /// transactions, and how many more entries there is room for.
-#[derive(Drop)]
 pub(crate) struct Members {
     pub(crate) entries: IndexMap<Hash256, Pooled, Seed>,
     pub(crate) coins: HashMap<OutPoint, Option<i64>, Seed>,
@@ -71,6 +71,15 @@ impl Model for Members {
 
     ghost invariant = { λ members. AreMembers members.entries.entries (index.values members.entries)
         members.coins.entries };
+}
+
+impl Drop for Members {
+    fn drop(self) {
+        let Members {
+            entries: _,
+            coins: _,
+        } = self;
+    }
 }
 
 impl Members {
@@ -194,7 +203,8 @@ impl Members {
     pub(crate) fn into_list(self) -> IntoValues<Hash256, Pooled>
         ensures { result ≡ self.list }
     {
-        self.entries.into_values()
+        let Members { entries, coins: _ } = self;
+        entries.into_values()
     }
 
     /// The number of transactions, at most 10,000.

@@ -2,17 +2,16 @@ ghost use Rattle.std.specs.Prelude.{◌≡◌, ◌⊎◌, ◌==◌, ◌≤◌, [
 ghost use Rattle.cb_base.specs.declared.fault.Fault.TheVariants.{Memory};
 ghost use Rattle.cb_ledger.specs.Spend.{spend};
 ghost use Rattle.cb_pool.specs.Listing.{since_of, txs_of, with_last};
-ghost use Rattle.cb_pool.specs.Matching.{pairs_of};
+ghost use Rattle.cb_compact.specs.Matching.{pairs_of};
 ghost use Rattle.cb_pool.specs.Rules.{Applies, IsUntold, Refuses, is_named_in, named_in};
 ghost use Rattle.cb_pool.specs.Values.{IsValueAfter};
 
 use crate::candidate::Candidate;
 use crate::members::Members;
-use crate::pairs::{Pairs, ShortIds};
 use cb_base::{Fault, Hash256, Seed, Shared};
-use cb_compact::NamedTx;
+use cb_block::{OutPoint, Tx};
+use cb_compact::{NamedTx, Pairs, ShortIds};
 use cb_ledger::Ledger;
-use cb_tx::{OutPoint, Tx};
 use std::alloc::Global;
 use std::marker::Model;
 
@@ -22,7 +21,6 @@ use std::marker::Model;
 /// the next one gets.
 ///
 /// The transactions are shared and never copied, and each is hashed once.
-#[derive(Drop)]
 pub struct Pool {
     pub(crate) alloc: Global,
     pub(crate) members: Members,
@@ -46,15 +44,18 @@ impl Model for Pool {
         × IfSome pool.named (λ named. named.items ≡ txs_of pool.members.list) };
 }
 
-impl Pool {
-    /// An empty pool. The first transaction gets the number 0. Its tables have the fixed seed.
-    pub fn new(alloc: Global) -> Pool
-        ensures list { result.list ≡ [] }
-        ensures next { result.next ≡ 0 }
-    {
-        Pool::with_seed(alloc, Seed::fixed())
+impl Drop for Pool {
+    fn drop(self) {
+        let Pool {
+            alloc: _,
+            members: _,
+            next: _,
+            named: _,
+        } = self;
     }
+}
 
+impl Pool {
     /// An empty pool. The first transaction gets the number 0. Its tables have this seed, which
     /// changes no result.
     pub fn with_seed(alloc: Global, seed: Seed) -> Pool

@@ -1,24 +1,23 @@
 ghost use Rattle.std.specs.Prelude.{◌≡◌, ◌<◌, ◌^◌, ◌++◌, ◌∷◌, [], List, if◌then◌else◌, is_some, length, not, filter, true, IfOk, IfSome, IsOk, IsOkUnless, IsTrue, Ok, OnOk};
 ghost use Rattle.std.specs.Map.{lookup};
 ghost use Rattle.cb_base.specs.declared.fault.Fault.TheVariants.{Memory};
-ghost use Rattle.cb_tx.specs.declared.tx.OutPoint.{OutPoint};
-ghost use Rattle.cb_tx.specs.declared.tx.Tx.{Tx};
+ghost use Rattle.cb_block.specs.declared.tx.OutPoint.{OutPoint};
+ghost use Rattle.cb_block.specs.declared.tx.Tx.{Tx};
 ghost use Rattle.cb_ledger.specs.Spend.{spend, spend_tx};
 ghost use Rattle.cb_ledger.specs.Unspent.{Unspent};
 ghost use Rattle.cb_pool.specs.Folding.{Refolds};
 ghost use Rattle.cb_pool.specs.Listing.{txs_of};
-ghost use Rattle.cb_pool.specs.Rules.{txid_of};
+ghost use Rattle.cb_block.specs.Txid.{txid_of};
 ghost use Rattle.cb_pool.specs.Staying.{Agree, AreSpent, Covers, Fits, Moves, StaysOf, Tells, ThinsOut, Turned, is_gone, mark_at, same_point, staying};
 
 use crate::candidate::Candidate;
 use crate::coins::{make_outputs, spend_outputs};
-use crate::marks::{Mark, Marks};
+use crate::marks::{OutputMark, OutputMarks};
 use crate::members::{Members, Pooled};
 use crate::pool::Pool;
 use cb_base::{Fault, Hash256, Seed};
-use cb_block::SoundBlock;
+use cb_block::{OutPoint, SoundBlock, Tx};
 use cb_ledger::Ledger;
-use cb_tx::{OutPoint, Tx};
 use indexmap::IndexMap;
 use std::alloc::Global;
 use std::collections::{HashMap, HashSet};
@@ -30,7 +29,7 @@ use std::marker::Model;
 /// marks.
 #[derive(Drop)]
 pub struct Thinning {
-    marks: Marks,
+    marks: OutputMarks,
     gone: HashSet<Hash256, Seed>,
     coins: HashMap<OutPoint, Option<i64>, Seed>,
 }
@@ -45,20 +44,20 @@ impl Model for Thinning {
 }
 
 /// Notes what a transaction of a block spends. Fails only with `Fault::Memory`.
-fn mark_spent(marks: &mut Marks, tx: &Tx) -> Result<(), Fault>
+fn mark_spent(marks: &mut OutputMarks, tx: &Tx) -> Result<(), Fault>
     ensures spent { OnOk result (AreSpent tx.now.inputs marks.old marks.new) }
     ensures memory { IsOkUnless result Memory }
 {
     if tx.is_coinbase() {
         return Ok(());
     }
-    marks.put_inputs(tx.inputs.as_slice(), Mark::Gone)?;
+    marks.put_inputs(tx.inputs.as_slice(), OutputMark::Gone)?;
     Ok(())
 }
 
 /// Notes what a transaction of a block changes in the new UTXO set. Fails only with
 /// `Fault::Memory`.
-fn mark_tx(marks: &mut Marks, txid: Hash256, tx: &Tx) -> Result<(), Fault>
+fn mark_tx(marks: &mut OutputMarks, txid: Hash256, tx: &Tx) -> Result<(), Fault>
     requires name { txid ≡ txid_of tx.now }
     requires few { length tx.now.outputs < 2 ^ 32 }
     ensures tells { OnOk result ((was now next : Unspent) →
@@ -73,7 +72,7 @@ fn mark_tx(marks: &mut Marks, txid: Hash256, tx: &Tx) -> Result<(), Fault>
 /// Notes what a block changes in the new UTXO set. The answer is false if a transaction of the
 /// block has more than 4,294,967,295 outputs; then the marks say nothing. Fails only with
 /// `Fault::Memory`.
-fn mark_block(marks: &mut Marks, block: &SoundBlock) -> Result<bool, Fault>
+fn mark_block(marks: &mut OutputMarks, block: &SoundBlock) -> Result<bool, Fault>
     ensures tells { IfOk result (λ known. IsTrue known → (was now next : Unspent) →
         spend now block.now.txs ≡ Ok next → Tells marks.old was now → Tells marks.new was next) }
     ensures memory { IsOkUnless result Memory }
@@ -89,18 +88,22 @@ fn mark_block(marks: &mut Marks, block: &SoundBlock) -> Result<bool, Fault>
 }
 
 /// Notes that a transaction of the pool leaves. Fails only with `Fault::Memory`.
-fn leave(marks: &mut Marks, tx: &Candidate) -> Result<(), Fault>
+fn leave(marks: &mut OutputMarks, tx: &Candidate) -> Result<(), Fault>
     ensures moves { OnOk result (Moves tx.now marks.old marks.new) }
     ensures memory { IsOkUnless result Memory }
 {
-    marks.put_inputs(tx.tx().inputs.as_slice(), Mark::Unknown)?;
+    marks.put_inputs(tx.tx().inputs.as_slice(), OutputMark::Unknown)?;
     marks.miss(tx.txid(), tx.tx().outputs.as_slice())?;
     Ok(())
 }
 
 /// The turn of one transaction of the pool, in order. The answer is false if the marks don't tell
 /// whether it stays, as where a txid comes twice. Fails only with `Fault::Memory`.
-fn turn(marks: &mut Marks, gone: &mut HashSet<Hash256, Seed>, tx: &Candidate) -> Result<bool, Fault>
+fn turn(
+    marks: &mut OutputMarks,
+    gone: &mut HashSet<Hash256, Seed>,
+    tx: &Candidate,
+) -> Result<bool, Fault>
     ensures turned { IfOk result (λ known. IsTrue known →
         Turned tx.now marks.old marks.new gone.old.keys gone.new.keys) }
     ensures memory { IsOkUnless result Memory }
@@ -121,7 +124,7 @@ fn turn(marks: &mut Marks, gone: &mut HashSet<Hash256, Seed>, tx: &Candidate) ->
 /// Fails only with `Fault::Memory`.
 fn turn_all(
     members: &Members,
-    marks: &mut Marks,
+    marks: &mut OutputMarks,
     gone: &mut HashSet<Hash256, Seed>,
 ) -> Result<bool, Fault>
     requires none { gone.old.keys ≡ [] }
@@ -147,7 +150,7 @@ fn turn_all(
 /// Fails only with `Fault::Memory`.
 fn note(
     coins: &mut HashMap<OutPoint, Option<i64>, Seed>,
-    marks: &Marks,
+    marks: &OutputMarks,
     tx: &Candidate,
 ) -> Result<(), Fault>
     ensures covers { OnOk result ((kept : List Tx) → Covers marks.now coins.old.entries kept
@@ -168,7 +171,7 @@ fn note(
 /// a mark. Fails only with `Fault::Memory`.
 fn note_pooled(
     coins: &mut HashMap<OutPoint, Option<i64>, Seed>,
-    marks: &Marks,
+    marks: &OutputMarks,
     gone: &HashSet<Hash256, Seed>,
     pooled: &Pooled,
 ) -> Result<(), Fault>
@@ -190,7 +193,7 @@ fn note_pooled(
 fn note_all(
     coins: &mut HashMap<OutPoint, Option<i64>, Seed>,
     members: &Members,
-    marks: &Marks,
+    marks: &OutputMarks,
     gone: &HashSet<Hash256, Seed>,
 ) -> Result<(), Fault>
     requires none { coins.old.entries ≡ [] }
@@ -241,7 +244,7 @@ fn take_out(entries: &mut IndexMap<Hash256, Pooled, Seed>, gone: &HashSet<Hash25
 /// Puts at each output with a mark what `changes` has there, or nothing.
 fn put_changes(
     coins: &mut HashMap<OutPoint, Option<i64>, Seed>,
-    marks: &Marks,
+    marks: &OutputMarks,
     changes: &HashMap<OutPoint, Option<i64>, Seed>,
 )
     requires held { (point : OutPoint) → is_some (mark_at marks.now point) ≡ true →
@@ -292,7 +295,7 @@ impl Pool {
     {
         let seed = self.members.seed();
         let mut plan = Thinning {
-            marks: Marks::new(self.alloc, seed),
+            marks: OutputMarks::new(self.alloc, seed),
             gone: HashSet::with_hasher(self.alloc, seed),
             coins: HashMap::with_hasher(self.alloc, seed),
         };

@@ -1,1 +1,4 @@
+pub mod Choices
+pub mod Choosing
 pub mod Refusing
+pub mod Windows

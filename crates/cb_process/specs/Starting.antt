@@ -3,18 +3,10 @@ use Rattle.std.specs.Prelude.{◌≡◌, ℕ, ◌⊎◌, List, ◌++◌, codes, 
 use Rattle.std.specs.Io.KnownBytes.{Appends}
 use Rattle.std.specs.declared.net.socket_addr.SocketAddr.{SocketAddr}
 use Rattle.std.specs.Net.Text.{socket_text}
+use Rattle.cb_rpc_serve.specs.Starting.{cause_text}
 use Rattle.cb_rpc_serve.specs.declared.settings.RpcSettings.{RpcSettings}
+use Rattle.cb_rpc_serve.specs.declared.start_fault.StartFault.{StartFault}
 use Rattle.cb_process.specs.declared.orders.NodeOrders.{NodeOrders}
-use Rattle.cb_process.specs.declared.start_fault.StartFault.{StartFault}
-use Rattle.cb_process.specs.declared.start_fault.StartFault.TheVariants as start
-
--- why a node can't be started, in words
-abbrev pub cause_text : StartFault → List ℕ
-cause_text start.Memory = codes "memory ran out"
-cause_text start.PortInUse = codes "the port is in use"
-cause_text start.NotOurs = codes "the address isn't this machine's"
-cause_text start.NotAllowed = codes "it isn't allowed"
-cause_text start.NoMeans = codes "no socket or no thread can be made"
 
 -- what standard error is told if the node can't listen at this address
 abbrev pub deaf_text : SocketAddr → StartFault → List ℕ

@@ -2,8 +2,8 @@
 use crate::host::ProcessHost;
 use crate::polling::may_tell;
 use crate::process::Process;
-use cb_node::{NodeFault, Waiting};
-use cb_watching::count_of;
+use crate::several::count_of;
+use cb_node::{IncomingConnection, NodeFault};
 use log::{Level, Log, warn};
 use std::net::SocketAddr;
 
@@ -37,7 +37,7 @@ impl<R: ProcessHost> Process<R> {
 
     /// The peer that waits, or else the next that may come in. Those before it that may not are
     /// turned away.
-    fn next_guest<L: Log>(&mut self, log: &L, now: u64) -> Option<Waiting> {
+    fn next_guest<L: Log>(&mut self, log: &L, now: u64) -> Option<IncomingConnection> {
         if let Some(waiting) = self.waiting.take() {
             return Some(waiting);
         }
@@ -75,8 +75,8 @@ impl<R: ProcessHost> Process<R> {
     }
 
     /// Serves a peer by a slot that is free.
-    fn let_in<L: Log>(&mut self, log: &L, waiting: Waiting, now: u64) {
-        let Waiting { stream, address } = waiting;
+    fn let_in<L: Log>(&mut self, log: &L, waiting: IncomingConnection, now: u64) {
+        let IncomingConnection { stream, address } = waiting;
         match self.node.admit(stream) {
             Ok(slot) => self.watch(log, slot, true, address, now),
             Err(fault) => self.complain(log, now, fault),
@@ -84,13 +84,13 @@ impl<R: ProcessHost> Process<R> {
     }
 
     /// Closes the connection of a peer. Counted are those against which a limit stood.
-    fn turn_away<L: Log>(&mut self, log: &L, waiting: Waiting, why: &str, now: u64) {
+    fn turn_away<L: Log>(&mut self, log: &L, waiting: IncomingConnection, why: &str, now: u64) {
         let address = waiting.address;
         drop(waiting);
         if !self.off {
             self.refused = self.refused.saturating_add(1);
         }
-        if may_tell(&mut self.pace, log, Level::Warn, now) {
+        if may_tell(&mut self.log_rate, log, Level::Warn, now) {
             warn!(log; "a peer was turned away: {why} ({address})");
         }
     }
@@ -99,7 +99,7 @@ impl<R: ProcessHost> Process<R> {
     fn complain<L: Log>(&mut self, log: &L, now: u64, fault: NodeFault) {
         if self.next_complaint <= now {
             self.next_complaint = now.saturating_add(COMPLAINT_MILLISECONDS);
-            if may_tell(&mut self.pace, log, Level::Warn, now) {
+            if may_tell(&mut self.log_rate, log, Level::Warn, now) {
                 warn!(log; "a peer wasn't accepted: {fault}");
             }
         }

@@ -1,8 +1,9 @@
 //! Which connections a process ends.
 use crate::host::ProcessHost;
 use crate::process::Process;
-use cb_limits::Due;
-use cb_watching::{Ending, note_all, quietest};
+use crate::several::{note_all, quietest};
+use crate::watch::DueAction;
+use crate::watching::DisconnectReason;
 
 /// For how many milliseconds a peer waits at most for the slot of a connection that is ended.
 const ROOM_MILLISECONDS: u64 = 1_000;
@@ -14,15 +15,15 @@ impl<R: ProcessHost> Process<R> {
         let able = note_all(self.watched.as_mut_slice(), &self.limits, now);
         for watched in self.watched.as_mut_slice() {
             match watched.watch.judge(&self.limits, able, now) {
-                Due::Nothing => {}
-                Due::Probe => {
+                DueAction::Nothing => {}
+                DueAction::Probe => {
                     watched.link.status.set_probe();
                     self.node.wake(watched.slot);
                 }
-                Due::End(cause) => watched.order(Ending::Late(cause)),
+                DueAction::End(cause) => watched.order(DisconnectReason::Late(cause)),
             }
             if self.off {
-                watched.order(Ending::NetworkOff);
+                watched.order(DisconnectReason::NetworkOff);
             }
         }
         self.kick_ordered(now);
@@ -57,7 +58,7 @@ impl<R: ProcessHost> Process<R> {
         };
         match self.watched.get_mut(place) {
             Some(watched) => {
-                watched.order(Ending::GaveWay);
+                watched.order(DisconnectReason::GaveWay);
                 self.kick_ordered(now);
                 true
             }

@@ -1,12 +1,13 @@
 //! Links that an operator makes and undoes.
-ghost use Rattle.std.specs.Prelude.{◌≢◌, ◌<◌, length, IfErr, IfSome};
+ghost use Rattle.std.specs.Prelude.{◌≢◌, IfErr};
 ghost use Rattle.cb_control.specs.declared.refusal.Refusal.TheVariants.{Unreadable};
 
+use crate::dials::{Dial, DialKind, place_of};
 use crate::host::ProcessHost;
+use crate::own_address::is_own;
 use crate::process::Process;
+use crate::watching::DisconnectReason;
 use cb_control::Refusal;
-use cb_dialling::{Target, is_own, is_target};
-use cb_watching::Ending;
 use std::net::SocketAddr;
 
 impl<R: ProcessHost> Process<R> {
@@ -28,31 +29,39 @@ impl<R: ProcessHost> Process<R> {
     }
 
     /// Has an address dialled once. Refused as `add` is.
-    #[tactic(auto, using(crate::proofs::Refusing::memory_is_known, crate::proofs::Refusing::already_is_known))]
+    #[tactic(auto, using(crate::proofs::Refusing::already_is_known))]
     pub fn try_once(&mut self, address: SocketAddr) -> Result<(), Refusal>
         ensures { IfErr result (λ refusal. refusal ≢ Unreadable) }
     {
         self.can_dial(address)?;
-        if is_target(self.tries.as_slice(), address) {
+        if self.is_dialled(DialKind::Once, address) {
             return Err(Refusal::Already);
         }
-        if self.tries.push(Target::new(address, false)).is_err() {
+        self.push(Dial::new(address, DialKind::Once, false))
+    }
+
+    /// Has an address dialled. If `keeps_trying` is set, it is dialled again until it is reached.
+    fn aim(&mut self, address: SocketAddr, keeps_trying: bool) -> Result<(), Refusal>
+        ensures { IfErr result (λ refusal. refusal ≢ Unreadable) }
+    {
+        self.can_dial(address)?;
+        self.push(Dial::new(address, DialKind::Lasting, keeps_trying))
+    }
+
+    /// Adds a dial. Fails only with `Refusal::Memory`.
+    #[tactic(auto, using(crate::proofs::Refusing::memory_is_known))]
+    fn push(&mut self, dial: Dial) -> Result<(), Refusal>
+        ensures { IfErr result (λ refusal. refusal ≢ Unreadable) }
+    {
+        if self.dials.push(dial).is_err() {
             return Err(Refusal::Memory);
         }
         Ok(())
     }
 
-    /// Has an address dialled. If `keeps_trying` is set, it is dialled again until it is reached.
-    #[tactic(auto, using(crate::proofs::Refusing::memory_is_known))]
-    fn aim(&mut self, address: SocketAddr, keeps_trying: bool) -> Result<(), Refusal>
-        ensures { IfErr result (λ refusal. refusal ≢ Unreadable) }
-    {
-        self.can_dial(address)?;
-        let target = Target::new(address, keeps_trying);
-        if self.targets.push(target).is_err() {
-            return Err(Refusal::Memory);
-        }
-        Ok(())
+    /// Whether there is a dial of this kind with this address.
+    fn is_dialled(&self, kind: DialKind, address: SocketAddr) -> bool {
+        place_of(self.dials.as_slice(), kind, address).is_some()
     }
 
     /// Fails with why an address isn't dialled.
@@ -66,7 +75,7 @@ impl<R: ProcessHost> Process<R> {
         if is_own(self.address, address) {
             return Err(Refusal::Own);
         }
-        if is_target(self.targets.as_slice(), address) {
+        if self.is_dialled(DialKind::Lasting, address) {
             return Err(Refusal::Already);
         }
         if !self.node.can_connect() {
@@ -77,23 +86,20 @@ impl<R: ProcessHost> Process<R> {
 
     /// Ends the connection to an address that is dialled, and dials it no more. An operator who
     /// waits for its first dial is told so. Refused if it isn't dialled; nothing was done then.
-    #[tactic(auto, using(crate::proofs::Refusing::memory_is_known, crate::proofs::Refusing::not_dialled_is_known))]
+    #[tactic(auto, using(crate::proofs::Refusing::not_dialled_is_known))]
     pub fn disconnect(&mut self, address: SocketAddr) -> Result<(), Refusal>
         ensures { IfErr result (λ refusal. refusal ≢ Unreadable) }
     {
-        let Some(place) = place_of(self.targets.as_slice(), address) else {
+        let Some(place) = place_of(self.dials.as_slice(), DialKind::Lasting, address) else {
             return Err(Refusal::NotDialled);
         };
-        if self.undone.reserve(1).is_err() {
-            return Err(Refusal::Memory);
-        }
-        let target = self.targets.remove(place);
+        self.dials[place].kind = DialKind::Undone;
+        let target = &self.dials[place].target;
         for watched in self.watched.as_mut_slice() {
             if target.lasts_in(watched.slot, watched.watch.made) {
-                watched.order(Ending::Disconnected);
+                watched.order(DisconnectReason::Disconnected);
             }
         }
-        self.undone.push_reserved(target);
         self.tell(address, Err(Refusal::NotDialled));
         Ok(())
     }
@@ -101,13 +107,14 @@ impl<R: ProcessHost> Process<R> {
     /// Lets go of the addresses that aren't dialled any more, once no thread dials them. What those
     /// connected is closed.
     pub fn end_undone(&mut self, now: u64) {
-        for place in (0..self.undone.len()).rev() {
-            let Some(target) = self.undone.get_mut(place) else {
+        for place in (0..self.dials.len()).rev() {
+            let Some(dial) = self.dials.get_mut(place) else {
                 return;
             };
-            if !target.is_dialled() || target.has_dialled() {
+            let target = &mut dial.target;
+            if dial.kind == DialKind::Undone && (!target.is_dialled() || target.has_dialled()) {
                 drop(target.take_stream(&self.rt, now));
-                drop(self.undone.remove(place));
+                drop(self.dials.remove(place));
             }
         }
     }
@@ -118,19 +125,14 @@ impl<R: ProcessHost> Process<R> {
     pub fn switch(&mut self, on: bool) {
         self.off = !on;
         if on {
-            for target in self.targets.as_mut_slice() {
-                target.hurry();
+            for dial in self.dials.as_mut_slice() {
+                if dial.kind == DialKind::Lasting {
+                    dial.target.hurry();
+                }
             }
         } else if let Some(address) = self.awaited {
             self.tell(address, Err(Refusal::Off));
             let _ = self.disconnect(address);
         }
     }
-}
-
-/// The place of the first of these that has this address.
-fn place_of(targets: &[Target], address: SocketAddr) -> Option<usize>
-    ensures { IfSome result (λ place. place < length targets.now) }
-{
-    targets.iter().position(|target| target.address == address)
 }

@@ -1,4 +1,4 @@
-use cb_limits::Limits;
+use crate::limits::Limits;
 use cb_rpc_serve::RpcSettings;
 use log::LevelFilter;
 use std::net::SocketAddr;

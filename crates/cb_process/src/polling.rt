@@ -1,20 +1,23 @@
 //! What a process does between two lines: it notes connections that ended, ends those that are
 //! late, accepts and dials peers, and ticks. Each is logged. Nothing of it fails: what can't be
 //! done now is tried again later.
-ghost use Rattle.std.specs.Prelude.{◌≢◌, ◌<◌, length, IfErr, IfSome};
-ghost use Rattle.cb_control.specs.declared.refusal.Refusal.TheVariants.{Unreadable};
+ghost use Rattle.std.specs.Prelude.{◌<◌, IfSome};
 
+use crate::dials::DialKind;
 use crate::host::ProcessHost;
-use crate::process::{Process, is_missed};
+use crate::process::Process;
+use crate::watch::Watch;
+use crate::watching::Watched;
 use cb_base::Hash256;
 use cb_control::Refusal;
 use cb_driver::{refusal_of, tip_of};
-use cb_limits::Watch;
 use cb_node::CloseReason;
-use cb_pipes::{Pace, unix_time};
-use cb_watching::Watched;
+use cb_pipes::{LogRate, unix_time};
 use log::{Level, Log, debug, info, log_enabled, warn};
 use std::net::{SocketAddr, TcpStream};
+
+/// Why an address isn't dialled for which no thread can be made.
+pub(crate) const NO_THREAD: &str = "no thread can be made";
 
 impl<R: ProcessHost> Process<R> {
     /// Does what is due.
@@ -24,15 +27,15 @@ impl<R: ProcessHost> Process<R> {
         self.note_ends(log, now);
         self.guard(now);
         self.admit(log, now);
-        for place in (0..self.targets.len()).rev() {
+        for place in (0..self.dials.len()).rev() {
             self.start_dial(log, place, now);
         }
-        for place in (0..self.targets.len()).rev() {
+        for place in (0..self.dials.len()).rev() {
             self.note_dial(log, place, now);
         }
         self.end_undone(now);
         self.try_all(log, now);
-        tell_others(log, self.pace.take_due(now));
+        tell_others(log, self.log_rate.take_due(now));
         if self.next_tick <= now {
             self.next_tick = now.saturating_add(self.tick);
             self.node.tick();
@@ -46,7 +49,7 @@ impl<R: ProcessHost> Process<R> {
             if let Some(reason) = self.ended(place) {
                 let gone = self.watched.remove(place);
                 self.moved = self.moved.with(gone.moved());
-                if may_tell(&mut self.pace, log, Level::Info, now) {
+                if may_tell(&mut self.log_rate, log, Level::Info, now) {
                     note_end(log, &gone, gone.end_name(reason));
                 }
                 self.put_off(log, &gone, now);
@@ -59,18 +62,18 @@ impl<R: ProcessHost> Process<R> {
         let now = self.now();
         self.note_ends(log, now);
         for gone in self.watched.as_slice() {
-            if may_tell(&mut self.pace, log, Level::Info, now) {
+            if may_tell(&mut self.log_rate, log, Level::Info, now) {
                 note_end(log, gone, "NodeEnded");
             }
         }
-        tell_others(log, self.pace.take_rest());
+        tell_others(log, self.log_rate.take_rest());
     }
 
     /// Logs which of these addresses, which are dialled from the start, were never reached.
     pub fn note_unreached<L: Log>(&self, log: &L, starts: &[SocketAddr]) {
-        for target in self.targets.as_slice() {
-            if is_missed(target, starts) {
-                let address = target.address;
+        for dial in self.dials.as_slice() {
+            if dial.is_missed(starts) {
+                let address = dial.target.address;
                 warn!(log; "{address} was never reached");
             }
         }
@@ -78,7 +81,7 @@ impl<R: ProcessHost> Process<R> {
 
     /// Why the connection at this place of the list is over.
     fn ended(&self, place: usize) -> Option<CloseReason>
-        ensures { IfSome result (λ reason. place < length self.now.watched.items) }
+        ensures { IfSome result (λ reason. place < self.now.lasting) }
     {
         self.watched.get(place)?.ended()
     }
@@ -86,10 +89,11 @@ impl<R: ProcessHost> Process<R> {
     /// A connection has ended: if it was to an address that is dialled, that is put off. Another
     /// one may have its slot already.
     fn put_off<L: Log>(&mut self, log: &L, gone: &Watched, now: u64) {
-        for target in self.targets.as_mut_slice() {
-            if target.lasts_in(gone.slot, gone.watch.made) {
+        for dial in self.dials.as_mut_slice() {
+            let target = &mut dial.target;
+            if dial.kind == DialKind::Lasting && target.lasts_in(gone.slot, gone.watch.made) {
                 let (address, seconds) = (target.address, target.put_off(now));
-                if may_tell(&mut self.pace, log, Level::Debug, now) {
+                if may_tell(&mut self.log_rate, log, Level::Debug, now) {
                     debug!(log; "{address} is dialled again in {seconds} s");
                 }
             }
@@ -106,7 +110,7 @@ impl<R: ProcessHost> Process<R> {
         now: u64,
     ) {
         self.connections = self.connections.saturating_add(1);
-        if may_tell(&mut self.pace, log, Level::Info, now) {
+        if may_tell(&mut self.log_rate, log, Level::Info, now) {
             let way = if inbound { "from" } else { "to" };
             info!(log; "connection {way} {address} in slot {slot}");
         }
@@ -135,30 +139,32 @@ impl<R: ProcessHost> Process<R> {
     /// Starts a dial of the address at this place of the list, if one is due. Where no thread can
     /// be made for it, the dial has failed.
     fn start_dial<L: Log>(&mut self, log: &L, place: usize, now: u64) {
-        let Some(target) = self.targets.get_mut(place) else {
+        let Some(dial) = self.dials.get_mut(place) else {
             return;
         };
-        if self.off || !target.is_due(now) {
+        let target = &mut dial.target;
+        if self.off || dial.kind != DialKind::Lasting || !target.is_due(now) {
             return;
         }
         let address = target.address;
         if target.dial(&self.rt, self.alloc) {
-            if may_tell(&mut self.pace, log, Level::Debug, now) {
+            if may_tell(&mut self.log_rate, log, Level::Debug, now) {
                 debug!(log; "dialling {address}");
             }
         } else {
             self.tell(address, Err(Refusal::Io));
-            self.miss(log, place, now, Refusal::Io);
+            self.miss(log, place, now, NO_THREAD);
         }
     }
 
     /// Serves the stream that a dial of the address at this place of the list connected, if one has
     /// ended. If there is none, or it can't be served, the address is put off.
     fn note_dial<L: Log>(&mut self, log: &L, place: usize, now: u64) {
-        let Some(target) = self.targets.get_mut(place) else {
+        let Some(dial) = self.dials.get_mut(place) else {
             return;
         };
-        if !target.has_dialled() {
+        let target = &mut dial.target;
+        if dial.kind != DialKind::Lasting || !target.has_dialled() {
             return;
         }
         let address = target.address;
@@ -167,36 +173,40 @@ impl<R: ProcessHost> Process<R> {
             target.put_off(now);
             return;
         }
+        let answered = stream.is_some();
         let served = self.serve(log, stream, address, now);
         self.tell(address, served);
         match served {
             Ok(slot) => {
-                if let Some(target) = self.targets.get_mut(place) {
-                    target.reach(slot, now);
+                if let Some(dial) = self.dials.get_mut(place) {
+                    dial.target.reach(slot, now);
                 }
             }
-            Err(refusal) => self.miss(log, place, now, refusal),
+            Err(refusal) => {
+                let why = self.words_of(refusal, answered);
+                self.miss(log, place, now, why);
+            }
         }
     }
 
     /// No connection to the address at this place of the list was made. It is put off, or forgotten
     /// if it was never reached and an operator waits for it.
-    fn miss<L: Log>(&mut self, log: &L, place: usize, now: u64, refusal: Refusal) {
-        let why = self.words_of(refusal);
-        let Some(target) = self.targets.get_mut(place) else {
+    fn miss<L: Log>(&mut self, log: &L, place: usize, now: u64, why: &str) {
+        let Some(dial) = self.dials.get_mut(place) else {
             return;
         };
+        let target = &mut dial.target;
         let (address, forgotten) = (target.address, !target.keeps_trying && !target.reached);
         let seconds = target.put_off(now);
-        if may_tell(&mut self.pace, log, Level::Warn, now) {
+        if may_tell(&mut self.log_rate, log, Level::Warn, now) {
             if forgotten {
                 warn!(log; "no connection to {address}: {why}");
             } else {
                 warn!(log; "no connection to {address}: {why}; again in {seconds} s");
             }
         }
-        if forgotten && place < self.targets.len() {
-            drop(self.targets.remove(place));
+        if forgotten && place < self.dials.len() {
+            drop(self.dials.remove(place));
         }
     }
 
@@ -227,12 +237,13 @@ impl<R: ProcessHost> Process<R> {
         }
     }
 
-    /// Why no connection was made, in words.
-    pub(crate) fn words_of(&self, refusal: Refusal) -> &'static str {
+    /// Why no connection was made to an address, by whether that answered, in words.
+    pub(crate) fn words_of(&self, refusal: Refusal, answered: bool) -> &'static str {
         match refusal {
             Refusal::NoSlot => self.lack_of_slots(false),
             Refusal::Memory => "memory ran out",
             Refusal::Fault(_) => "the hall refused",
+            _ if answered => "a socket or a thread failed",
             _ => "it doesn't answer",
         }
     }
@@ -265,8 +276,8 @@ impl<R: ProcessHost> Process<R> {
 }
 
 /// Whether a line about a connection may be logged at this time. If it may not, it is counted.
-pub fn may_tell<L: Log>(pace: &mut Pace, log: &L, level: Level, now: u64) -> bool {
-    log_enabled!(log; level) && pace.admits(now)
+pub fn may_tell<L: Log>(log_rate: &mut LogRate, log: &L, level: Level, now: u64) -> bool {
+    log_enabled!(log; level) && log_rate.admits(now)
 }
 
 /// Logs how many lines about connections weren't logged, if any weren't.

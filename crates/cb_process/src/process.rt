@@ -3,19 +3,25 @@ ghost use Rattle.std.specs.Prelude.{◌≡◌, ◌+◌, ◌≤◌, true, IfOk};
 ghost use Rattle.cb_control.specs.Outcomes.{says_yes};
 ghost use Rattle.cb_driver.specs.Auditing.{IsAudited};
 
+use crate::aiming::targets_of;
+use crate::dials::{Dial, DialKind, dials_of, end_dials};
+use crate::doors::Doors;
 use crate::host::ProcessHost;
+use crate::limits::Limits;
 use crate::orders::NodeOrders;
-use crate::start_fault::{StartFault, listen};
+use crate::own_address::is_own;
+use crate::start_fault::start_fault_of;
+use crate::stopwatch::Stopwatch;
+use crate::watching::Watched;
 use cb_base::{Hash256, Seed};
 use cb_control::{Moved, Refusal, Verdict};
-use cb_dialling::{Target, is_own, targets_of};
 use cb_driver::finish_audited;
-use cb_limits::{Doors, Limits};
-use cb_node::{Node, NodeEnd, NodeFault, NodeSettings, Waiting};
-use cb_pipes::{Pace, unix_time};
-use cb_watching::{Stopwatch, Watched};
+use cb_node::{IncomingConnection, Node, NodeEnd, NodeFault, NodeSettings};
+use cb_pipes::{LogRate, unix_time};
+use cb_rpc_serve::StartFault;
 use log::{Log, error, warn};
 use std::alloc::Global;
+use std::marker::Model;
 use std::mem;
 use std::net::SocketAddr;
 use std::random::RandomSource;
@@ -27,56 +33,70 @@ const MOST_SLOTS: u16 = 1_000;
 /// A node's process.
 #[derive(Drop)]
 pub struct Process<R: ProcessHost> {
-    pub rt: R,
-    pub alloc: Global,
+    pub(crate) rt: R,
+    pub(crate) alloc: Global,
     /// The seed of the node's tables.
-    pub seed: Seed,
-    pub settings: NodeSettings,
-    pub node: Node<R>,
+    pub(crate) seed: Seed,
+    pub(crate) settings: NodeSettings,
+    pub(crate) node: Node<R>,
     /// Where it listens.
-    pub address: SocketAddr,
-    pub clock: Stopwatch,
+    pub(crate) address: SocketAddr,
+    pub(crate) clock: Stopwatch,
     /// How many milliseconds pass from tick to tick.
-    pub tick: u64,
+    pub(crate) tick: u64,
     /// When the next tick is due, in milliseconds since the process began.
-    pub next_tick: u64,
+    pub(crate) next_tick: u64,
     /// When it may be logged again that a peer wasn't accepted, in milliseconds since the process
     /// began.
-    pub next_complaint: u64,
+    pub(crate) next_complaint: u64,
     /// How often lines about connections are logged.
-    pub pace: Pace,
+    pub(crate) log_rate: LogRate,
     /// The tip that was logged last.
-    pub tip: Hash256,
+    pub(crate) tip: Hash256,
     /// The connections that last.
-    pub watched: Vec<Watched>,
+    pub(crate) watched: Vec<Watched>,
     /// What peers may do.
-    pub limits: Limits,
+    pub(crate) limits: Limits,
     /// Who was let in a moment ago.
-    pub doors: Doors,
+    pub(crate) doors: Doors,
     /// The peer that waits for a slot.
-    pub waiting: Option<Waiting>,
+    pub(crate) waiting: Option<IncomingConnection>,
     /// Until when that peer waits for the slot of a connection that is ended.
-    pub room_by: u64,
+    pub(crate) room_by: u64,
     /// Whether the operator has the node have no connections.
-    pub off: bool,
+    pub(crate) off: bool,
     /// The addresses that it dials.
-    pub targets: Vec<Target>,
-    /// Those that it doesn't dial any more, while threads still do.
-    pub undone: Vec<Target>,
-    /// The addresses that it dials once.
-    pub tries: Vec<Target>,
+    pub(crate) dials: Vec<Dial>,
     /// The address whose first dial an operator waits for.
-    pub awaited: Option<SocketAddr>,
+    pub(crate) awaited: Option<SocketAddr>,
     /// What that came to: the address, and the slot that serves the connection.
-    pub outcome: Option<(SocketAddr, Result<u16, Refusal>)>,
+    pub(crate) outcome: Option<(SocketAddr, Result<u16, Refusal>)>,
     /// How many nodes it had before this one.
-    pub restarts: u64,
+    pub(crate) restarts: u64,
     /// How many connections there were.
-    pub connections: u64,
+    pub(crate) connections: u64,
     /// How many were turned away.
-    pub refused: u64,
+    pub(crate) refused: u64,
     /// What the connections that ended moved.
-    pub moved: Moved,
+    pub(crate) moved: Moved,
+}
+
+impl<R: ProcessHost> Model for Process<R> {
+    ghost use Rattle.std.specs.Prelude.{◌+◌, ◌≤◌, length};
+    ghost use Rattle.cb_process.specs.Process.{ProcessState};
+
+    ghost Value = { ProcessState };
+
+    ghost view = { λ process. record {
+      node = process.node;
+      address = process.address;
+      lasting = length process.watched.items;
+    } };
+
+    // A node can be started with its settings.
+    ghost invariant = { λ process. (1 ≤ process.settings.inbound + process.settings.outbound)
+        × (process.settings.inbound + process.settings.outbound ≤ 1000)
+        × (1 ≤ process.settings.handlers) × (process.settings.handlers ≤ 16) };
 }
 
 impl<R: ProcessHost> Process<R> {
@@ -88,11 +108,16 @@ impl<R: ProcessHost> Process<R> {
         seed: Seed,
         orders: &NodeOrders,
     ) -> Result<Process<R>, StartFault> {
-        let settings = settings_of(&rt, orders.handlers, &orders.limits)?;
-        let pace = Pace::new(alloc)?;
-        let mut node = Node::start_with_seed(rt, alloc, settings, seed)?;
-        match listen_and_aim(&rt, alloc, &mut node, orders) {
-            Ok((address, targets)) => Ok(Process {
+        let settings = match settings_of(&rt, orders.handlers, &orders.limits) {
+            Ok(settings) => settings,
+            Err(fault) => return Err(start_fault_of(fault)),
+        };
+        let log_rate = LogRate::new(alloc)?;
+        let mut node = Node::start_with_seed(rt, alloc, settings, seed).map_err(
+            |fault| start_fault_of(fault),
+        )?;
+        match listen_and_aim(alloc, &mut node, orders) {
+            Ok((address, dials)) => Ok(Process {
                 rt,
                 alloc,
                 seed,
@@ -104,16 +129,14 @@ impl<R: ProcessHost> Process<R> {
                 tick: orders.tick,
                 next_tick: 0,
                 next_complaint: 0,
-                pace,
+                log_rate,
                 watched: Vec::new(alloc),
                 limits: orders.limits,
                 doors: Doors::new(alloc),
                 waiting: None,
                 room_by: 0,
                 off: false,
-                targets,
-                undone: Vec::new(alloc),
-                tries: Vec::new(alloc),
+                dials,
                 restarts: 0,
                 awaited: None,
                 outcome: None,
@@ -123,10 +146,67 @@ impl<R: ProcessHost> Process<R> {
             }),
             Err(fault) => {
                 drop(node.finish());
-                drop(pace);
+                drop(log_rate);
                 Err(fault)
             }
         }
+    }
+
+    /// Where it allocates.
+    pub fn alloc(&self) -> Global {
+        self.alloc
+    }
+
+    /// By what it reads the clock.
+    pub fn rt(&self) -> &R {
+        &self.rt
+    }
+
+    /// Its node.
+    pub fn node(&self) -> &Node<R> {
+        &self.node
+    }
+
+    /// Where it listens.
+    pub fn address(&self) -> SocketAddr
+        ensures { result ≡ self.now.address }
+    {
+        self.address
+    }
+
+    /// The seed of the node's tables.
+    pub fn seed(&self) -> Seed {
+        self.seed
+    }
+
+    /// How many nodes it had before this one.
+    pub fn restarts(&self) -> u64 {
+        self.restarts
+    }
+
+    /// What tells the blocks that it mines from those of another.
+    pub fn mark(&self) -> u8 {
+        self.settings.nonce.to_le_bytes()[0]
+    }
+
+    /// The connections that last.
+    pub fn watched(&self) -> &[Watched] {
+        self.watched.as_slice()
+    }
+
+    /// Whether the operator has the node have no connections.
+    pub fn is_off(&self) -> bool {
+        self.off
+    }
+
+    /// Whether an operator waits for the first dial of an address.
+    pub fn awaits_dial(&self) -> bool {
+        self.awaited.is_some()
+    }
+
+    /// The address for whose first dial an operator waited, and what that came to.
+    pub fn take_outcome(&mut self) -> Option<(SocketAddr, Result<u16, Refusal>)> {
+        self.outcome.take()
     }
 
     /// The time in milliseconds since the process began.
@@ -153,16 +233,12 @@ impl<R: ProcessHost> Process<R> {
             rt,
             alloc,
             node,
-            targets,
-            undone,
-            tries,
+            dials,
             ..
         } = self;
-        let (mut dialled, mut undone, mut tries) = (targets, undone, tries);
-        end_dials(&rt, dialled.as_mut_slice());
-        end_dials(&rt, undone.as_mut_slice());
-        end_dials(&rt, tries.as_mut_slice());
-        let reached = all_reached(dialled.as_slice(), starts);
+        let mut dials = dials;
+        end_dials(&rt, dials.as_mut_slice());
+        let reached = !dials.iter().any(|dial| dial.is_missed(starts));
         let (end, verdict) = finish_audited(&rt, alloc, node);
         (end, verdict, reached)
     }
@@ -181,9 +257,7 @@ impl<R: ProcessHost> Process<R> {
         let settings = settings_of(&self.rt, self.settings.handlers, &self.limits)?;
         let fresh = Node::start_with_seed(self.rt, self.alloc, settings, self.seed)?;
         let old = mem::replace(&mut self.node, fresh);
-        end_dials(&self.rt, self.targets.as_mut_slice());
-        end_dials(&self.rt, self.undone.as_mut_slice());
-        end_dials(&self.rt, self.tries.as_mut_slice());
+        end_dials(&self.rt, self.dials.as_mut_slice());
         self.note_all_ends(log);
         let (end, verdict) = finish_audited(&self.rt, self.alloc, old);
         self.settings = settings;
@@ -195,13 +269,25 @@ impl<R: ProcessHost> Process<R> {
     }
 
     /// The connections have ended with their node. What they moved stays counted, and each address
-    /// is due to be dialled.
+    /// that isn't dialled just once is due to be dialled.
     fn forget_connections(&mut self) {
         self.moved = self.moved_in_all();
         self.watched.clear();
-        self.tries.clear();
-        for target in self.targets.as_mut_slice() {
-            target.renew();
+        self.renew_dials();
+    }
+
+    /// No address is connected to. Those that are dialled just once are let go, and those that
+    /// aren't dialled any more are left.
+    fn renew_dials(&mut self) {
+        for place in (0..self.dials.len()).rev() {
+            let Some(dial) = self.dials.get_mut(place) else {
+                return;
+            };
+            match dial.kind {
+                DialKind::Lasting => dial.target.renew(),
+                DialKind::Once => drop(self.dials.remove(place)),
+                DialKind::Undone => {}
+            }
         }
     }
 
@@ -241,33 +327,17 @@ pub fn is_well(verdict: Verdict, first: bool, second: bool) -> bool
     first && second
 }
 
-/// Whether an address is one of these, which are dialled from the start, and was never reached.
-pub fn is_missed(target: &Target, starts: &[SocketAddr]) -> bool {
-    !target.reached && target.keeps_trying && starts.contains(&target.address)
-}
-
-/// Whether each of these addresses was reached once, as far as it is dialled.
-fn all_reached(targets: &[Target], starts: &[SocketAddr]) -> bool {
-    targets.iter().all(|target| !is_missed(target, starts))
-}
-
-/// Waits for the dials that are under way, at most a few seconds. What they connected is closed.
-fn end_dials<R: ProcessHost>(rt: &R, targets: &mut [Target]) {
-    for target in targets {
-        drop(target.take_stream(rt, 0));
-    }
-}
-
 /// Lets a node listen, and returns where, and the addresses that it dials from the start.
 fn listen_and_aim<R: ProcessHost>(
-    rt: &R,
     alloc: Global,
     node: &mut Node<R>,
     orders: &NodeOrders,
-) -> Result<(SocketAddr, Vec<Target>), StartFault> {
-    let address = listen(rt, node, orders.listen)?;
+) -> Result<(SocketAddr, Vec<Dial>), StartFault> {
+    let address = node
+        .listen_at(orders.listen)
+        .map_err(|fault| start_fault_of(fault))?;
     let targets = targets_of(alloc, address, orders.connect.as_slice())?;
-    Ok((address, targets))
+    Ok((address, dials_of(alloc, targets)?))
 }
 
 /// With what a node with so many handlers, at least 1 and at most 16, is started under these

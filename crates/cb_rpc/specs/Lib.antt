@@ -1,4 +1,12 @@
-pub mod Requests
-pub mod Outcomes
 pub mod Answers
+pub mod Blocks
+pub mod Chains
+pub mod Headers
+pub mod Mempools
+pub mod Networks
+pub mod Outcomes
+pub mod Peers
+pub mod Requests
 pub mod Responses
+pub mod Telling
+pub mod Transactions

@@ -8,7 +8,9 @@ use Rattle.json.specs.Print.{print}
 use Rattle.cb_rpc_call.specs.Faults.{status_of}
 use Rattle.cb_rpc_call.specs.declared.fault.RpcFault.{RpcFault}
 use Rattle.cb_rpc_call.specs.declared.fault.RpcFault.TheVariants.{Unreadable, NotObject, TooMany}
-use Rattle.cb_rpc_json.specs.declared.told.Told.{Told}
+use Rattle.cb_rpc_call.specs.declared.status.ResponseStatus.{ResponseStatus}
+use Rattle.cb_rpc_call.specs.declared.status.ResponseStatus.TheVariants.{Answered, NoContent}
+use Rattle.cb_rpc.specs.declared.told.CallResult.{CallResult}
 use Rattle.cb_rpc.specs.Answers.{answer_tokens}
 use Rattle.cb_rpc.specs.Outcomes.{Answering, IsOutcome}
 use Rattle.cb_rpc.specs.Requests.{is_note, is_second, request_at, size_of}
@@ -17,24 +19,24 @@ use Rattle.cb_rpc.specs.declared.listing.TheConstants.{MOST_REQUESTS}
 
 -- nothing is answered
 abbrev pub IsSilent : Response → Type 0
-IsSilent response = (response.status ≡ 204) × (response.text.items ≡ [])
+IsSilent response = (response.status ≡ NoContent) × (response.text.items ≡ [])
 
-abbrev pub first_status : Result Told RpcFault → ℕ
-first_status (Ok told) = 200
+abbrev pub first_status : Result CallResult RpcFault → ResponseStatus
+first_status (Ok told) = Answered
 first_status (Err fault) = status_of fault
 
 -- the status of an answer that stands alone
-abbrev pub outcome_status : Json → Result Told RpcFault → ℕ
-outcome_status request outcome = if is_second request then 200 else first_status outcome
+abbrev pub outcome_status : Json → Result CallResult RpcFault → ResponseStatus
+outcome_status request outcome = if is_second request then Answered else first_status outcome
 
 -- a line of JSON that answers a request
-abbrev pub IsPrinted : Json → Result Told RpcFault → Response → Type 0
+abbrev pub IsPrinted : Json → Result CallResult RpcFault → Response → Type 0
 IsPrinted request outcome response =
     (response.status ≡ outcome_status request outcome)
     × (response.text.items ≡ print (answer_tokens request outcome) ++ 10 ∷ [])
 
 -- what answers a request that stands alone: nothing if it is a notification
-abbrev pub IsAlone : Json → Result Told RpcFault → Response → Type 0
+abbrev pub IsAlone : Json → Result CallResult RpcFault → Response → Type 0
 IsAlone request outcome response =
     ((is_note request ≡ true) × IsSilent response)
     ⊎ ((is_note request ≡ false) × IsPrinted request outcome response)
@@ -42,7 +44,7 @@ IsAlone request outcome response =
 -- the answer to a request is added to those before it; none if it is a notification
 abbrev pub AddsOne : Answering → Json → List Token → List Token → Type 0
 AddsOne answers request before after =
-    (outcome : Result Told RpcFault) × IsOutcome answers request outcome
+    (outcome : Result CallResult RpcFault) × IsOutcome answers request outcome
     × (after ≡ before ++ (if is_note request then [] else answer_tokens request outcome))
 
 -- the same of the request at a place of a list
@@ -67,7 +69,7 @@ has_told (suc n) requests = has_told n requests || is_told_at n requests
 -- the end of the answers to a list: a line of JSON, or nothing
 abbrev pub IsClosed : Bool → List Token → Response → Type 0
 IsClosed told tokens response =
-    ((told ≡ true) × (response.status ≡ 200)
+    ((told ≡ true) × (response.status ≡ Answered)
     × (response.text.items ≡ print (tokens ++ Token.end_array ∷ []) ++ 10 ∷ []))
     ⊎ ((told ≡ false) × IsSilent response)
 
@@ -93,7 +95,7 @@ Answers answers (json.number s) response = IsPrinted json.null (Err NotObject) r
 Answers answers (json.string s) response = IsPrinted json.null (Err NotObject) response
 Answers answers (json.array js) response = AreAnswered answers (json.array js) response
 Answers answers (json.object ms) response =
-    (outcome : Result Told RpcFault) × IsOutcome answers (json.object ms) outcome
+    (outcome : Result CallResult RpcFault) × IsOutcome answers (json.object ms) outcome
     × IsAlone (json.object ms) outcome response
 
 -- what answers a text: that of the value that it is, or that it is none

@@ -5,12 +5,12 @@ ghost use Rattle.json.specs.Value.{value_view};
 ghost use Rattle.cb_rpc.specs.Requests.{is_note};
 ghost use Rattle.cb_rpc.specs.Responses.{Adds, AddsOne, AreAnswered, IsClosed, IsListed, is_told_at};
 
-use crate::asking::Node;
+use crate::asking::CallHandler;
 use crate::reading::{is_note, size};
 use crate::responding::{outcome, refuse};
 use crate::response::{Response, silence};
 use crate::writing::put_answer;
-use cb_rpc_call::RpcFault;
+use cb_rpc_call::{ResponseStatus, RpcFault};
 use json::{Value, Writer};
 use std::alloc::{AllocError, Global};
 
@@ -18,7 +18,7 @@ use std::alloc::{AllocError, Global};
 pub const MOST_REQUESTS: usize = 1_000;
 
 /// Answers requests that come in a list.
-pub(crate) fn answer_all<N: Node>(
+pub(crate) fn answer_all<N: CallHandler>(
     alloc: Global,
     node: &N,
     requests: &Value<'_>,
@@ -35,7 +35,7 @@ pub(crate) fn answer_all<N: Node>(
 }
 
 /// Answers each request of a list, in order.
-fn answer_each<N: Node>(
+fn answer_each<N: CallHandler>(
     alloc: Global,
     node: &N,
     requests: &Value<'_>,
@@ -67,11 +67,14 @@ fn close(alloc: Global, writer: Writer, told: bool) -> Result<Response, AllocErr
     writer.end_array()?;
     let mut text = writer.into_inner();
     text.push(b'\n')?;
-    Ok(Response { status: 200, text })
+    Ok(Response {
+        status: ResponseStatus::Answered,
+        text,
+    })
 }
 
 /// Answers the request at a place of a list. Returns whether it is answered.
-fn put_at<N: Node>(
+fn put_at<N: CallHandler>(
     alloc: Global,
     writer: &mut Writer,
     node: &N,
@@ -91,7 +94,7 @@ fn put_at<N: Node>(
 }
 
 /// Answers a request of a list. Returns whether it is answered.
-fn put_one<N: Node>(
+fn put_one<N: CallHandler>(
     alloc: Global,
     writer: &mut Writer,
     node: &N,

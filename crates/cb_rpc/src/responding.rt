@@ -6,19 +6,19 @@ ghost use Rattle.json.specs.Value.{value_view};
 ghost use Rattle.cb_rpc.specs.Outcomes.{IsOutcome};
 ghost use Rattle.cb_rpc.specs.Responses.{Answers, IsAlone, IsPrinted, Responds, outcome_status};
 
-use crate::asking::Node;
+use crate::asking::CallHandler;
 use crate::listing::answer_all;
 use crate::reading::{is_note, is_second};
 use crate::response::{Response, silence};
+use crate::told::CallResult;
 use crate::writing::put_answer;
-use cb_rpc_call::{RpcFault, read_call};
-use cb_rpc_json::Told;
+use cb_rpc_call::{ResponseStatus, RpcFault, read_call};
 use json::{Error, Scratch, Value, Writer};
 use std::alloc::{AllocError, Global};
 
 /// Answers the text of a request: one call, or a list of calls. A text that is no JSON is told so.
 /// Fails only for lack of memory; calls that were asked by then are done.
-pub fn respond<N: Node>(alloc: Global, node: &N, text: &[u8]) -> Result<Response, AllocError>
+pub fn respond<N: CallHandler>(alloc: Global, node: &N, text: &[u8]) -> Result<Response, AllocError>
     ensures { IfOk result (λ response. Responds (N.answers node.now) text.now response) }
 {
     let mut scratch = Scratch::new(alloc);
@@ -30,7 +30,7 @@ pub fn respond<N: Node>(alloc: Global, node: &N, text: &[u8]) -> Result<Response
 }
 
 /// Answers a request that was read: one call, or a list of calls.
-fn answer_read<N: Node>(
+fn answer_read<N: CallHandler>(
     alloc: Global,
     node: &N,
     request: &Value<'_>,
@@ -47,11 +47,11 @@ fn answer_read<N: Node>(
 }
 
 /// What comes of a request.
-pub(crate) fn outcome<N: Node>(
+pub(crate) fn outcome<N: CallHandler>(
     alloc: Global,
     node: &N,
     request: &Value<'_>,
-) -> Result<Told, RpcFault>
+) -> Result<CallResult, RpcFault>
     ensures { IsOutcome (N.answers node.now) (value_view request.now) result }
 {
     match read_call(alloc, request) {
@@ -71,7 +71,7 @@ pub(crate) fn refuse(alloc: Global, fault: RpcFault) -> Result<Response, AllocEr
 fn finish_one(
     alloc: Global,
     request: &Value<'_>,
-    outcome: &Result<Told, RpcFault>,
+    outcome: &Result<CallResult, RpcFault>,
 ) -> Result<Response, AllocError>
     requires { HasNumbers (value_view request.now) }
     ensures { IfOk result (λ response. IsAlone (value_view request.now) outcome.now response) }
@@ -87,7 +87,7 @@ fn finish_one(
 fn print_one(
     alloc: Global,
     request: &Value<'_>,
-    outcome: &Result<Told, RpcFault>,
+    outcome: &Result<CallResult, RpcFault>,
 ) -> Result<Response, AllocError>
     requires { HasNumbers (value_view request.now) }
     ensures { IfOk result (λ response. IsPrinted (value_view request.now) outcome.now response) }
@@ -101,14 +101,14 @@ fn print_one(
 }
 
 /// The status of a response that tells one outcome alone.
-fn status_of(request: &Value<'_>, outcome: &Result<Told, RpcFault>) -> u16
+fn status_of(request: &Value<'_>, outcome: &Result<CallResult, RpcFault>) -> ResponseStatus
     ensures { result ≡ outcome_status (value_view request.now) outcome.now }
 {
     if is_second(request) {
-        return 200;
+        return ResponseStatus::Answered;
     }
     match outcome {
-        Ok(_) => 200,
+        Ok(_) => ResponseStatus::Answered,
         Err(fault) => fault.status(),
     }
 }

@@ -1,14 +1,14 @@
 //! What answers an HTTP request.
 ghost use Rattle.cb_rpc.specs.Responses.{IsSilent};
 
+use cb_rpc_call::ResponseStatus;
 use std::alloc::Global;
 
 /// What answers the text of a request: the status of the HTTP response, and its body.
 #[derive(Drop)]
 pub struct Response {
-    /// The status: 200, 204 if nothing is answered, else what Bitcoin Core's daemon answers to the
-    /// fault.
-    pub status: u16,
+    /// The status: what Bitcoin Core's daemon answers to the fault, if there is one.
+    pub status: ResponseStatus,
     /// The body: a line of JSON, or nothing.
     pub text: Vec<u8>,
 }
@@ -18,7 +18,7 @@ pub(crate) fn silence(alloc: Global) -> Response
     ensures { IsSilent result }
 {
     Response {
-        status: 204,
+        status: ResponseStatus::NoContent,
         text: Vec::new(alloc),
     }
 }

@@ -5,8 +5,9 @@ ghost use Rattle.json.specs.Value.{value_view};
 ghost use Rattle.cb_rpc.specs.Answers.{answer_tokens, code_tokens, error_tokens, fault_tokens, first_tokens, id_tokens, message_tokens, result_tokens, second_tokens, version_tokens, yield_tokens};
 
 use crate::reading::is_second;
+use crate::telling::put_told;
+use crate::told::CallResult;
 use cb_rpc_call::RpcFault;
-use cb_rpc_json::{Told, put_told};
 use json::{Value, Writer};
 use std::alloc::{AllocError, Global};
 
@@ -15,7 +16,7 @@ pub(crate) fn put_answer(
     alloc: Global,
     writer: &mut Writer,
     request: &Value<'_>,
-    outcome: &Result<Told, RpcFault>,
+    outcome: &Result<CallResult, RpcFault>,
 ) -> Result<(), AllocError>
     requires { HasNumbers (value_view request.now) }
     ensures tokens { OnOk result (writer.new.tokens
@@ -34,7 +35,7 @@ fn put_first(
     alloc: Global,
     writer: &mut Writer,
     request: &Value<'_>,
-    outcome: &Result<Told, RpcFault>,
+    outcome: &Result<CallResult, RpcFault>,
 ) -> Result<(), AllocError>
     requires { HasNumbers (value_view request.now) }
     ensures tokens { OnOk result (writer.new.tokens
@@ -55,7 +56,7 @@ fn put_second(
     alloc: Global,
     writer: &mut Writer,
     request: &Value<'_>,
-    outcome: &Result<Told, RpcFault>,
+    outcome: &Result<CallResult, RpcFault>,
 ) -> Result<(), AllocError>
     requires { HasNumbers (value_view request.now) }
     ensures tokens { OnOk result (writer.new.tokens
@@ -82,7 +83,7 @@ fn put_version(writer: &mut Writer) -> Result<(), AllocError>
 fn put_yield(
     alloc: Global,
     writer: &mut Writer,
-    outcome: &Result<Told, RpcFault>,
+    outcome: &Result<CallResult, RpcFault>,
 ) -> Result<(), AllocError>
     ensures tokens { OnOk result
         (writer.new.tokens ≡ writer.old.tokens ++ yield_tokens outcome.now) }
@@ -104,7 +105,7 @@ fn put_yield(
 fn put_result(
     alloc: Global,
     writer: &mut Writer,
-    outcome: &Result<Told, RpcFault>,
+    outcome: &Result<CallResult, RpcFault>,
 ) -> Result<(), AllocError>
     ensures tokens { OnOk result
         (writer.new.tokens ≡ writer.old.tokens ++ result_tokens outcome.now) }
@@ -117,7 +118,7 @@ fn put_result(
 }
 
 /// Writes why a request was refused; null if it wasn't.
-fn put_error(writer: &mut Writer, outcome: &Result<Told, RpcFault>) -> Result<(), AllocError>
+fn put_error(writer: &mut Writer, outcome: &Result<CallResult, RpcFault>) -> Result<(), AllocError>
     ensures tokens { OnOk result
         (writer.new.tokens ≡ writer.old.tokens ++ error_tokens outcome.now) }
     ensures before { writer.new.before ≡ writer.old.before }

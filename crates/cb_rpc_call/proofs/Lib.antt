@@ -1,1 +1,4 @@
+pub mod Adding
+pub mod Amounts
+pub mod Lists
 pub mod Names

@@ -4,7 +4,7 @@ use Rattle.json.specs.Json.{Json}
 use Rattle.json.specs.Find.{get, at, as_bool, as_number, as_str, is_null, later_or}
 use Rattle.cb_base.specs.declared.hash.Hash256.{Hash256}
 use Rattle.cb_control.specs.Written.{hash_in}
-use Rattle.cb_run.specs.Words.{number_in}
+use Rattle.cb_control.specs.Words.{number_in}
 use Rattle.cb_rpc_call.specs.declared.fault.RpcFault.{RpcFault}
 use Rattle.cb_rpc_call.specs.declared.fault.RpcFault.TheVariants.{BadHash, OutOfRange, Usage, WrongType}
 use Rattle.cb_rpc_call.specs.declared.method.Method.{Method}

@@ -12,6 +12,7 @@ use Rattle.cb_rpc_call.specs.PeerCalls.{ReadsAddNode, ReadsDisconnectNode, set_n
 use Rattle.cb_rpc_call.specs.Starving.{InMemory}
 use Rattle.cb_rpc_call.specs.declared.call.Call.{Call}
 use Rattle.cb_rpc_call.specs.declared.call.Call.TheVariants as calls
+use Rattle.cb_rpc_call.specs.declared.call.ReadCall.TheVariants as reads
 use Rattle.cb_rpc_call.specs.declared.fault.Lacking.{Lacking}
 use Rattle.cb_rpc_call.specs.declared.fault.RpcFault.{RpcFault}
 use Rattle.cb_rpc_call.specs.declared.fault.RpcFault.TheVariants.{Lacks, MethodNotText, NoMethod, ParamsNotList, UnknownMethod, UnknownParameter, Usage}
@@ -47,11 +48,11 @@ misfit method request = option_and_then (misfit_in method) (get (codes "params")
 
 -- the call of a method that the arguments suit
 abbrev pub ReadsFitting : Method → Json → Result Call RpcFault → Type 0
-ReadsFitting GetBlockCount request result = result ≡ Ok calls.BlockCount
-ReadsFitting GetBestBlockHash request result = result ≡ Ok calls.BestBlockHash
-ReadsFitting GetChainTips request result = result ≡ Ok calls.ChainTips
-ReadsFitting GetBlockchainInfo request result = result ≡ Ok calls.ChainInfo
-ReadsFitting GetMempoolInfo request result = result ≡ Ok calls.MempoolInfo
+ReadsFitting GetBlockCount request result = result ≡ Ok (calls.Read reads.BlockCount)
+ReadsFitting GetBestBlockHash request result = result ≡ Ok (calls.Read reads.BestBlockHash)
+ReadsFitting GetChainTips request result = result ≡ Ok (calls.Read reads.ChainTips)
+ReadsFitting GetBlockchainInfo request result = result ≡ Ok (calls.Read reads.ChainInfo)
+ReadsFitting GetMempoolInfo request result = result ≡ Ok (calls.Read reads.MempoolInfo)
 ReadsFitting GetNetworkInfo request result = result ≡ Ok calls.NetworkInfo
 ReadsFitting GetNetTotals request result = result ≡ Ok calls.NetTotals
 ReadsFitting GetConnectionCount request result = result ≡ Ok calls.ConnectionCount

@@ -4,14 +4,15 @@ use Rattle.std.specs.Result.{result_ok}
 use Rattle.hex.specs.Hex.{decode_sized}
 use Rattle.json.specs.Json.{Json}
 use Rattle.json.specs.Find.{as_bool, as_number, later_or}
-use Rattle.cb_block.specs.Reading.{header_at}
+use Rattle.cb_block.specs.BlockReading.{header_at}
 use Rattle.cb_block.specs.declared.header.Header.{Header}
-use Rattle.cb_run.specs.Words.{number_in}
+use Rattle.cb_control.specs.Words.{number_in}
 use Rattle.cb_rpc_call.specs.Arguments.{◌>>=◌, argument, hash_of, if_given, needed, number_of, switch_of, text_of}
 use Rattle.cb_rpc_call.specs.declared.call.Call.{Call}
 use Rattle.cb_rpc_call.specs.declared.call.Call.TheVariants as calls
 use Rattle.cb_rpc_call.specs.declared.call.Detail.{Detail}
 use Rattle.cb_rpc_call.specs.declared.call.Detail.TheVariants.{Hex, Txids, Txs}
+use Rattle.cb_rpc_call.specs.declared.call.ReadCall.TheVariants as reads
 use Rattle.cb_rpc_call.specs.declared.fault.RpcFault.{RpcFault}
 use Rattle.cb_rpc_call.specs.declared.fault.RpcFault.TheVariants.{BadHeader, HeightOutOfRange, OutOfRange, WrongType}
 use Rattle.cb_rpc_call.specs.declared.method.Method.TheVariants as methods
@@ -25,13 +26,13 @@ height_of j = do
 abbrev pub block_hash_call : Json → Result Call RpcFault
 block_hash_call request = do
   height ← needed methods.GetBlockHash height_of (argument 0 (codes "height") request)
-  Ok (calls.BlockHash height)
+  Ok (calls.Read (reads.BlockHash height))
 
 abbrev pub block_header_call : Json → Result Call RpcFault
 block_header_call request = do
   hash ← needed methods.GetBlockHeader hash_of (argument 0 (codes "blockhash") request)
   verbose ← if_given true switch_of (argument 1 (codes "verbose") request)
-  Ok (calls.BlockHeader hash verbose)
+  Ok (calls.Read (reads.BlockHeader hash verbose))
 
 -- an argument that has two names
 abbrev pub verbosity : Json → Option Json
@@ -62,7 +63,7 @@ abbrev pub block_call : Json → Result Call RpcFault
 block_call request = do
   hash ← needed methods.GetBlock hash_of (argument 0 (codes "blockhash") request)
   detail ← if_given Txids detail_of (verbosity request)
-  Ok (calls.Block hash detail)
+  Ok (calls.Read (reads.Block hash detail))
 
 -- the header that 160 digits of hex write
 abbrev pub header_in : List ℕ → Option Header

@@ -1,10 +1,15 @@
 -- Why calls are refused: the number, the words and the HTTP status of each reason (Bitcoin Core's
 -- RPC error codes; JSON-RPC 2.0, "Error object").
 use Rattle.std.specs.Prelude.{ℕ, ℤ, negsuc, List, codes}
+use Rattle.cb_base.specs.Fault.{fault_name}
+use Rattle.cb_base.specs.declared.fault.Fault.{Fault}
+use Rattle.cb_base.specs.declared.fault.Fault.TheVariants as faults
 use Rattle.cb_rpc_call.specs.declared.fault.Lacking.{Lacking}
 use Rattle.cb_rpc_call.specs.declared.fault.Lacking.TheVariants.{Wallet, Disk, Scripts, Mining}
 use Rattle.cb_rpc_call.specs.declared.fault.RpcFault.{RpcFault}
-use Rattle.cb_rpc_call.specs.declared.fault.RpcFault.TheVariants.{Unreadable, NotObject, TooMany, NoMethod, MethodNotText, ParamsNotList, UnknownMethod, Lacks, Usage, WrongType, UnknownParameter, BadHash, OutOfRange, BadWord, NotOne, HeightOutOfRange, NoBlock, NoBlockData, NotInMempool, NoTransaction, BadTransaction, BadBlock, BadHeader, MissingInputs, InChain, Rejected, HeaderRejected, MiningFailed, BadAddress, Already, NotAdded, NotConnected, Own, NoSlot, NetworkOff, Memory, Io, Ending}
+use Rattle.cb_rpc_call.specs.declared.fault.RpcFault.TheVariants.{Unreadable, NotObject, TooMany, NoMethod, MethodNotText, ParamsNotList, UnknownMethod, Lacks, Usage, WrongType, UnknownParameter, BadHash, OutOfRange, BadWord, NotOne, HeightOutOfRange, NoBlock, NoBlockData, NotInMempool, NoTransaction, BadTransaction, BadBlock, BadHeader, MissingInputs, InChain, Rejected, HeaderRejected, MiningFailed, BadAddress, Already, NotAdded, NotConnected, Own, NoSlot, NetworkOff, Internal, Memory, Io, Ending}
+use Rattle.cb_rpc_call.specs.declared.status.ResponseStatus.{ResponseStatus}
+use Rattle.cb_rpc_call.specs.declared.status.ResponseStatus.TheVariants.{Answered, NoContent, BadRequest, NotFound, ServerError}
 use Rattle.cb_rpc_call.specs.Methods.{usage}
 use Rattle.cb_rpc_call.specs.Words.{block_words, header_words, reject_words}
 
@@ -44,6 +49,7 @@ code_of NotConnected = negsuc 28
 code_of Own = negsuc 0
 code_of NoSlot = negsuc 0
 code_of NetworkOff = negsuc 8
+code_of (Internal fault) = negsuc 32602
 code_of Memory = negsuc 6
 code_of Io = negsuc 0
 code_of Ending = negsuc 0
@@ -93,16 +99,30 @@ message_of NotConnected = codes "Node not found in connected nodes"
 message_of Own = codes "The address is the node's own"
 message_of NoSlot = codes "No slot is free"
 message_of NetworkOff = codes "Network activity is disabled"
+message_of (Internal fault) = fault_name fault
 message_of Memory = codes "Out of memory"
 message_of Io = codes "A call of the system failed"
 message_of Ending = codes "The node is about to end"
 
 -- the status of the HTTP response that tells it alone
-abbrev pub status_of : RpcFault → ℕ
-status_of TooMany = 400
-status_of NoMethod = 400
-status_of MethodNotText = 400
-status_of ParamsNotList = 400
-status_of UnknownMethod = 404
-status_of (Lacks lacking) = 404
-status_of other = 500
+abbrev pub status_of : RpcFault → ResponseStatus
+status_of TooMany = BadRequest
+status_of NoMethod = BadRequest
+status_of MethodNotText = BadRequest
+status_of ParamsNotList = BadRequest
+status_of UnknownMethod = NotFound
+status_of (Lacks lacking) = NotFound
+status_of other = ServerError
+
+-- the number of a status
+abbrev pub status_number : ResponseStatus → ℕ
+status_number Answered = 200
+status_number NoContent = 204
+status_number BadRequest = 400
+status_number NotFound = 404
+status_number ServerError = 500
+
+-- a fault of the hall that no request calls for
+abbrev pub internal_fault : Fault → RpcFault
+internal_fault faults.Memory = Memory
+internal_fault fault = Internal fault

@@ -1,11 +1,14 @@
+pub mod Amounts
 pub mod Arguments
 pub mod Calls
 pub mod ChainCalls
 pub mod ControlCalls
 pub mod Faults
+pub mod Fields
 pub mod Lacking
 pub mod MempoolCalls
 pub mod Methods
 pub mod PeerCalls
 pub mod Starving
 pub mod Words
+pub mod Writing

@@ -6,11 +6,12 @@ use Rattle.json.specs.Find.{as_bool, at}
 use Rattle.cb_base.specs.declared.hash.Hash256.{Hash256}
 use Rattle.cb_block.specs.declared.block.Block.{Block}
 use Rattle.cb_control.specs.Written.{block_in, tx_in}
-use Rattle.cb_tx.specs.declared.tx.Tx.{Tx}
+use Rattle.cb_block.specs.declared.tx.Tx.{Tx}
 use Rattle.cb_rpc_call.specs.Arguments.{◌>>=◌, argument, hash_of, if_given, needed, number_of, switch_of, text_of}
 use Rattle.cb_rpc_call.specs.ChainCalls.{verbosity}
 use Rattle.cb_rpc_call.specs.declared.call.Call.{Call}
 use Rattle.cb_rpc_call.specs.declared.call.Call.TheVariants as calls
+use Rattle.cb_rpc_call.specs.declared.call.ReadCall.TheVariants as reads
 use Rattle.cb_rpc_call.specs.declared.fault.RpcFault.{RpcFault}
 use Rattle.cb_rpc_call.specs.declared.fault.RpcFault.TheVariants.{BadBlock, BadTransaction, NotOne, WrongType}
 use Rattle.cb_rpc_call.specs.declared.method.Method.TheVariants as methods
@@ -18,12 +19,12 @@ use Rattle.cb_rpc_call.specs.declared.method.Method.TheVariants as methods
 abbrev pub raw_mempool_call : Json → Result Call RpcFault
 raw_mempool_call request = do
   verbose ← if_given false switch_of (argument 0 (codes "verbose") request)
-  Ok (calls.RawMempool verbose)
+  Ok (calls.Read (reads.RawMempool verbose))
 
 abbrev pub mempool_entry_call : Json → Result Call RpcFault
 mempool_entry_call request = do
   txid ← needed methods.GetMempoolEntry hash_of (argument 0 (codes "txid") request)
-  Ok (calls.MempoolEntry txid)
+  Ok (calls.Read (reads.MempoolEntry txid))
 
 -- whether a transaction is told as fields: true, or a number that isn't 0
 abbrev pub verbose_with : Option Bool → Json → Result Bool RpcFault
@@ -46,14 +47,14 @@ raw_transaction_call request = do
   txid ← needed methods.GetRawTransaction hash_of (argument 0 (codes "txid") request)
   verbose ← if_given false verbose_of (verbosity request)
   block ← if_given None some_hash_of (argument 2 (codes "blockhash") request)
-  Ok (calls.RawTransaction txid verbose block)
+  Ok (calls.Read (reads.RawTransaction txid verbose block))
 
 abbrev pub tx_out_call : Json → Result Call RpcFault
 tx_out_call request = do
   txid ← needed methods.GetTxOut hash_of (argument 0 (codes "txid") request)
   index ← needed methods.GetTxOut (number_of (2 ^ 32)) (argument 1 (codes "n") request)
   with_mempool ← if_given true switch_of (argument 2 (codes "include_mempool") request)
-  Ok (calls.TxOut (record { txid = txid; index = index }) with_mempool)
+  Ok (calls.Read (reads.TxOut (record { txid = txid; index = index }) with_mempool))
 
 -- ---- transactions and blocks in hex
 
@@ -70,7 +71,7 @@ block_of j = do
 abbrev pub decode_call : Json → Result Call RpcFault
 decode_call request = do
   tx ← needed methods.DecodeRawTransaction tx_of (argument 0 (codes "hexstring") request)
-  Ok (calls.DecodeTransaction tx)
+  Ok (calls.Read (reads.DecodeTransaction tx))
 
 abbrev pub send_call : Json → Result Call RpcFault
 send_call request = do
@@ -94,7 +95,7 @@ only_tx_of j = do
 abbrev pub test_accept_call : Json → Result Call RpcFault
 test_accept_call request = do
   tx ← needed methods.TestMempoolAccept only_tx_of (argument 0 (codes "rawtxs") request)
-  Ok (calls.TestAccept tx)
+  Ok (calls.Read (reads.TestAccept tx))
 
 abbrev pub submit_block_call : Json → Result Call RpcFault
 submit_block_call request = do

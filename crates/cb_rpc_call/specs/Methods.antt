@@ -6,6 +6,197 @@ use Rattle.std.specs.Str.{bytes_eq}
 use Rattle.cb_rpc_call.specs.declared.method.Method.{Method}
 use Rattle.cb_rpc_call.specs.declared.method.Method.TheVariants.{GetBlockCount, GetBestBlockHash, GetBlockHash, GetBlockHeader, GetBlock, GetChainTips, GetBlockchainInfo, GetRawMempool, GetMempoolInfo, GetMempoolEntry, GetRawTransaction, GetTxOut, DecodeRawTransaction, SendRawTransaction, TestMempoolAccept, SubmitBlock, SubmitHeader, Generate, GetNetworkInfo, GetNetTotals, GetConnectionCount, GetPeerInfo, AddNode, DisconnectNode, SetNetworkActive, Ping, Uptime, Logging, Help, Stop}
 
+-- A method's name, the names of its parameters in the order of their places, names that some of
+-- them have besides, and how it is called: what stands in round brackets may be left out.
+pub record Row : Type 0 where
+  pub name : List ℕ
+  pub parameters : List (List ℕ)
+  pub others : List (List ℕ)
+  pub usage : List ℕ
+
+abbrev pub row : Method → Row
+row GetBlockCount = record {
+  name = codes "getblockcount";
+  parameters = [];
+  others = [];
+  usage = codes "getblockcount";
+}
+row GetBestBlockHash = record {
+  name = codes "getbestblockhash";
+  parameters = [];
+  others = [];
+  usage = codes "getbestblockhash";
+}
+row GetBlockHash = record {
+  name = codes "getblockhash";
+  parameters = codes "height" ∷ [];
+  others = [];
+  usage = codes "getblockhash height";
+}
+row GetBlockHeader = record {
+  name = codes "getblockheader";
+  parameters = codes "blockhash" ∷ codes "verbose" ∷ [];
+  others = [];
+  usage = codes "getblockheader \"blockhash\" ( verbose )";
+}
+row GetBlock = record {
+  name = codes "getblock";
+  parameters = codes "blockhash" ∷ codes "verbosity" ∷ [];
+  others = codes "verbose" ∷ [];
+  usage = codes "getblock \"blockhash\" ( verbosity )";
+}
+row GetChainTips = record {
+  name = codes "getchaintips";
+  parameters = [];
+  others = [];
+  usage = codes "getchaintips";
+}
+row GetBlockchainInfo = record {
+  name = codes "getblockchaininfo";
+  parameters = [];
+  others = [];
+  usage = codes "getblockchaininfo";
+}
+row GetRawMempool = record {
+  name = codes "getrawmempool";
+  parameters = codes "verbose" ∷ [];
+  others = [];
+  usage = codes "getrawmempool ( verbose )";
+}
+row GetMempoolInfo = record {
+  name = codes "getmempoolinfo";
+  parameters = [];
+  others = [];
+  usage = codes "getmempoolinfo";
+}
+row GetMempoolEntry = record {
+  name = codes "getmempoolentry";
+  parameters = codes "txid" ∷ [];
+  others = [];
+  usage = codes "getmempoolentry \"txid\"";
+}
+row GetRawTransaction = record {
+  name = codes "getrawtransaction";
+  parameters = codes "txid" ∷ codes "verbosity" ∷ codes "blockhash" ∷ [];
+  others = codes "verbose" ∷ [];
+  usage = codes "getrawtransaction \"txid\" ( verbosity \"blockhash\" )";
+}
+row GetTxOut = record {
+  name = codes "gettxout";
+  parameters = codes "txid" ∷ codes "n" ∷ codes "include_mempool" ∷ [];
+  others = [];
+  usage = codes "gettxout \"txid\" n ( include_mempool )";
+}
+row DecodeRawTransaction = record {
+  name = codes "decoderawtransaction";
+  parameters = codes "hexstring" ∷ [];
+  others = [];
+  usage = codes "decoderawtransaction \"hexstring\"";
+}
+row SendRawTransaction = record {
+  name = codes "sendrawtransaction";
+  parameters = codes "hexstring" ∷ codes "maxfeerate" ∷ [];
+  others = [];
+  usage = codes "sendrawtransaction \"hexstring\" ( maxfeerate )";
+}
+row TestMempoolAccept = record {
+  name = codes "testmempoolaccept";
+  parameters = codes "rawtxs" ∷ codes "maxfeerate" ∷ [];
+  others = [];
+  usage = codes "testmempoolaccept [\"rawtx\"] ( maxfeerate )";
+}
+row SubmitBlock = record {
+  name = codes "submitblock";
+  parameters = codes "hexdata" ∷ codes "dummy" ∷ [];
+  others = [];
+  usage = codes "submitblock \"hexdata\" ( \"dummy\" )";
+}
+row SubmitHeader = record {
+  name = codes "submitheader";
+  parameters = codes "hexdata" ∷ [];
+  others = [];
+  usage = codes "submitheader \"hexdata\"";
+}
+row Generate = record {
+  name = codes "generate";
+  parameters = codes "nblocks" ∷ codes "maxtries" ∷ [];
+  others = [];
+  usage = codes "generate nblocks ( maxtries )";
+}
+row GetNetworkInfo = record {
+  name = codes "getnetworkinfo";
+  parameters = [];
+  others = [];
+  usage = codes "getnetworkinfo";
+}
+row GetNetTotals = record {
+  name = codes "getnettotals";
+  parameters = [];
+  others = [];
+  usage = codes "getnettotals";
+}
+row GetConnectionCount = record {
+  name = codes "getconnectioncount";
+  parameters = [];
+  others = [];
+  usage = codes "getconnectioncount";
+}
+row GetPeerInfo = record {
+  name = codes "getpeerinfo";
+  parameters = [];
+  others = [];
+  usage = codes "getpeerinfo";
+}
+row AddNode = record {
+  name = codes "addnode";
+  parameters = codes "node" ∷ codes "command" ∷ [];
+  others = [];
+  usage = codes "addnode \"node\" \"command\"";
+}
+row DisconnectNode = record {
+  name = codes "disconnectnode";
+  parameters = codes "address" ∷ codes "nodeid" ∷ [];
+  others = [];
+  usage = codes "disconnectnode ( \"address\" nodeid )";
+}
+row SetNetworkActive = record {
+  name = codes "setnetworkactive";
+  parameters = codes "state" ∷ [];
+  others = [];
+  usage = codes "setnetworkactive state";
+}
+row Ping = record {
+  name = codes "ping";
+  parameters = [];
+  others = [];
+  usage = codes "ping";
+}
+row Uptime = record {
+  name = codes "uptime";
+  parameters = [];
+  others = [];
+  usage = codes "uptime";
+}
+row Logging = record {
+  name = codes "logging";
+  parameters = codes "level" ∷ [];
+  others = [];
+  usage = codes "logging ( \"level\" )";
+}
+row Help = record {
+  name = codes "help";
+  parameters = codes "command" ∷ [];
+  others = [];
+  usage = codes "help ( \"command\" )";
+}
+row Stop = record {
+  name = codes "stop";
+  parameters = [];
+  others = [];
+  usage = codes "stop";
+}
+
+-- in the order in which `help` lists them
 abbrev pub methods : List Method
 methods =
     GetBlockCount
@@ -41,110 +232,23 @@ methods =
     ∷ []
 
 abbrev pub method_name : Method → List ℕ
-method_name GetBlockCount = codes "getblockcount"
-method_name GetBestBlockHash = codes "getbestblockhash"
-method_name GetBlockHash = codes "getblockhash"
-method_name GetBlockHeader = codes "getblockheader"
-method_name GetBlock = codes "getblock"
-method_name GetChainTips = codes "getchaintips"
-method_name GetBlockchainInfo = codes "getblockchaininfo"
-method_name GetRawMempool = codes "getrawmempool"
-method_name GetMempoolInfo = codes "getmempoolinfo"
-method_name GetMempoolEntry = codes "getmempoolentry"
-method_name GetRawTransaction = codes "getrawtransaction"
-method_name GetTxOut = codes "gettxout"
-method_name DecodeRawTransaction = codes "decoderawtransaction"
-method_name SendRawTransaction = codes "sendrawtransaction"
-method_name TestMempoolAccept = codes "testmempoolaccept"
-method_name SubmitBlock = codes "submitblock"
-method_name SubmitHeader = codes "submitheader"
-method_name Generate = codes "generate"
-method_name GetNetworkInfo = codes "getnetworkinfo"
-method_name GetNetTotals = codes "getnettotals"
-method_name GetConnectionCount = codes "getconnectioncount"
-method_name GetPeerInfo = codes "getpeerinfo"
-method_name AddNode = codes "addnode"
-method_name DisconnectNode = codes "disconnectnode"
-method_name SetNetworkActive = codes "setnetworkactive"
-method_name Ping = codes "ping"
-method_name Uptime = codes "uptime"
-method_name Logging = codes "logging"
-method_name Help = codes "help"
-method_name Stop = codes "stop"
+method_name method = (row method).name
 
 -- the method with this name
 abbrev pub method_in : List ℕ → Option Method
 method_in name = find (λ method. bytes_eq name (method_name method)) methods
 
--- its name and its parameters; what stands in round brackets may be left out
 abbrev pub usage : Method → List ℕ
-usage GetBlockCount = codes "getblockcount"
-usage GetBestBlockHash = codes "getbestblockhash"
-usage GetBlockHash = codes "getblockhash height"
-usage GetBlockHeader = codes "getblockheader \"blockhash\" ( verbose )"
-usage GetBlock = codes "getblock \"blockhash\" ( verbosity )"
-usage GetChainTips = codes "getchaintips"
-usage GetBlockchainInfo = codes "getblockchaininfo"
-usage GetRawMempool = codes "getrawmempool ( verbose )"
-usage GetMempoolInfo = codes "getmempoolinfo"
-usage GetMempoolEntry = codes "getmempoolentry \"txid\""
-usage GetRawTransaction = codes "getrawtransaction \"txid\" ( verbosity \"blockhash\" )"
-usage GetTxOut = codes "gettxout \"txid\" n ( include_mempool )"
-usage DecodeRawTransaction = codes "decoderawtransaction \"hexstring\""
-usage SendRawTransaction = codes "sendrawtransaction \"hexstring\" ( maxfeerate )"
-usage TestMempoolAccept = codes "testmempoolaccept [\"rawtx\"] ( maxfeerate )"
-usage SubmitBlock = codes "submitblock \"hexdata\" ( \"dummy\" )"
-usage SubmitHeader = codes "submitheader \"hexdata\""
-usage Generate = codes "generate nblocks ( maxtries )"
-usage GetNetworkInfo = codes "getnetworkinfo"
-usage GetNetTotals = codes "getnettotals"
-usage GetConnectionCount = codes "getconnectioncount"
-usage GetPeerInfo = codes "getpeerinfo"
-usage AddNode = codes "addnode \"node\" \"command\""
-usage DisconnectNode = codes "disconnectnode ( \"address\" nodeid )"
-usage SetNetworkActive = codes "setnetworkactive state"
-usage Ping = codes "ping"
-usage Uptime = codes "uptime"
-usage Logging = codes "logging ( \"level\" )"
-usage Help = codes "help ( \"command\" )"
-usage Stop = codes "stop"
+usage method = (row method).usage
 
 -- a line for each method
 abbrev pub usages : List ℕ
 usages = join_by usage (10 ∷ []) methods
 
--- the names of its parameters, in the order of their places
-abbrev pub parameters : Method → List (List ℕ)
-parameters GetBlockHash = codes "height" ∷ []
-parameters GetBlockHeader = codes "blockhash" ∷ codes "verbose" ∷ []
-parameters GetBlock = codes "blockhash" ∷ codes "verbosity" ∷ []
-parameters GetRawMempool = codes "verbose" ∷ []
-parameters GetMempoolEntry = codes "txid" ∷ []
-parameters GetRawTransaction = codes "txid" ∷ codes "verbosity" ∷ codes "blockhash" ∷ []
-parameters GetTxOut = codes "txid" ∷ codes "n" ∷ codes "include_mempool" ∷ []
-parameters DecodeRawTransaction = codes "hexstring" ∷ []
-parameters SendRawTransaction = codes "hexstring" ∷ codes "maxfeerate" ∷ []
-parameters TestMempoolAccept = codes "rawtxs" ∷ codes "maxfeerate" ∷ []
-parameters SubmitBlock = codes "hexdata" ∷ codes "dummy" ∷ []
-parameters SubmitHeader = codes "hexdata" ∷ []
-parameters Generate = codes "nblocks" ∷ codes "maxtries" ∷ []
-parameters AddNode = codes "node" ∷ codes "command" ∷ []
-parameters DisconnectNode = codes "address" ∷ codes "nodeid" ∷ []
-parameters SetNetworkActive = codes "state" ∷ []
-parameters Logging = codes "level" ∷ []
-parameters Help = codes "command" ∷ []
-parameters other = []
-
--- names that some of them have besides
-abbrev pub other_names : Method → List (List ℕ)
-other_names GetBlock = codes "verbose" ∷ []
-other_names GetRawTransaction = codes "verbose" ∷ []
-other_names other = []
-
 -- how many arguments it takes at most
 abbrev pub most : Method → ℕ
-most method = length (parameters method)
+most method = length (row method).parameters
 
 -- whether it has a parameter with this name
 abbrev pub takes : Method → List ℕ → Bool
-takes method name = list_any (bytes_eq name) (parameters method ++ other_names method)
+takes method name = list_any (bytes_eq name) ((row method).parameters ++ (row method).others)

@@ -7,8 +7,7 @@ ghost use Rattle.cb_rpc_call.specs.Arguments.{argument, hash_of, if_given, neede
 use crate::fault::RpcFault;
 use crate::method::Method;
 use cb_base::Hash256;
-use cb_control::read_hash;
-use cb_run::number;
+use cb_control::{number, read_hash};
 use json::Value;
 
 /// The argument at this place, or with this name. One that is null counts as left out.

@@ -1,8 +1,7 @@
 //! What a request asks of a node.
 use crate::method::Method;
 use cb_base::{Hash256, Shared};
-use cb_block::{Block, Header};
-use cb_tx::{OutPoint, Tx};
+use cb_block::{Block, Header, OutPoint, Tx};
 use log::LevelFilter;
 use std::net::SocketAddr;
 
@@ -37,9 +36,9 @@ pub enum Whom {
     Id(u64),
 }
 
-/// A call with its parameters.
+/// A call that reads the chain and the mempool alone, with its parameters.
 #[derive(Drop)]
-pub enum Call {
+pub enum ReadCall {
     /// `getblockcount`: the height of the best chain's tip.
     BlockCount,
     /// `getbestblockhash`: the hash of the best chain's tip.
@@ -68,10 +67,17 @@ pub enum Call {
     TxOut(OutPoint, bool),
     /// `decoderawtransaction HEX`: a transaction as fields.
     DecodeTransaction(Shared<Tx>),
-    /// `sendrawtransaction HEX`: takes a transaction.
-    SendTransaction(Shared<Tx>),
     /// `testmempoolaccept [HEX]`: whether the mempool would take a transaction.
     TestAccept(Shared<Tx>),
+}
+
+/// A call with its parameters.
+#[derive(Drop)]
+pub enum Call {
+    /// One that reads the chain and the mempool alone.
+    Read(ReadCall),
+    /// `sendrawtransaction HEX`: takes a transaction.
+    SendTransaction(Shared<Tx>),
     /// `submitblock HEX`: takes a block.
     SubmitBlock(Shared<Block>),
     /// `submitheader HEX`: takes a header.

@@ -4,16 +4,15 @@ ghost use Rattle.json.specs.Value.{value_view};
 ghost use Rattle.cb_rpc_call.specs.Arguments.{if_given};
 ghost use Rattle.cb_rpc_call.specs.ChainCalls.{block_call, block_hash_call, block_header_call, detail_of, detail_with, generate_call, header_in, header_of, height_of, mined_of, submit_header_call, unless_zero, verbosity};
 ghost use Rattle.cb_rpc_call.specs.declared.call.Detail.TheVariants as details;
-ghost use Rattle.cb_run.specs.Words.{number_in};
+ghost use Rattle.cb_control.specs.Words.{number_in};
 
 use crate::arguments::{argument, needed_hash, number_of, switch_or};
-use crate::call::{Call, Detail};
+use crate::call::{Call, Detail, ReadCall};
 use crate::fault::RpcFault;
 use crate::method::Method;
 use cb_base::Cursor;
 use cb_block::{Header, read_header};
-use cb_control::MOST_MINED;
-use cb_run::{number, short};
+use cb_control::{MOST_MINED, number, short};
 use json::Value;
 
 /// `getblockhash`.
@@ -23,7 +22,7 @@ pub(crate) fn block_hash(request: &Value<'_>) -> Result<Call, RpcFault>
     let Some(height) = argument(request, 0, "height") else {
         return Err(RpcFault::Usage(Method::GetBlockHash));
     };
-    Ok(Call::BlockHash(height_of(height)?))
+    Ok(Call::Read(ReadCall::BlockHash(height_of(height)?)))
 }
 
 /// A height.
@@ -47,7 +46,7 @@ pub(crate) fn block_header(request: &Value<'_>) -> Result<Call, RpcFault>
 {
     let hash = needed_hash(Method::GetBlockHeader, request, 0, "blockhash")?;
     let verbose = switch_or(true, request, 1, "verbose")?;
-    Ok(Call::BlockHeader(hash, verbose))
+    Ok(Call::Read(ReadCall::BlockHeader(hash, verbose)))
 }
 
 /// `getblock`.
@@ -56,7 +55,7 @@ pub(crate) fn block(request: &Value<'_>) -> Result<Call, RpcFault>
 {
     let hash = needed_hash(Method::GetBlock, request, 0, "blockhash")?;
     let detail = detail_or_txids(request)?;
-    Ok(Call::Block(hash, detail))
+    Ok(Call::Read(ReadCall::Block(hash, detail)))
 }
 
 /// The argument `verbosity`, or `verbose`, as it was named before.

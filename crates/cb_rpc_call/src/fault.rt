@@ -3,8 +3,10 @@ ghost use Rattle.std.specs.Prelude.{◌≡◌};
 ghost use Rattle.cb_rpc_call.specs.Faults.{code_of, lacking_words, message_of, status_of};
 
 use crate::method::Method;
+use crate::status::ResponseStatus;
 use crate::words::{block_words, header_words, reject_words};
 use cb_base::Fault;
+use std::alloc::{AllocError, AllocFailed};
 
 /// What the node doesn't have that a method of Bitcoin Core needs.
 #[derive(Clone, Copy)]
@@ -92,6 +94,8 @@ pub enum RpcFault {
     NoSlot,
     /// The operator has the node have no connections.
     NetworkOff,
+    /// A fault to which the call can't come: the node itself is wrong.
+    Internal(Fault),
     /// Memory ran out.
     Memory,
     /// A call of the system failed.
@@ -130,7 +134,7 @@ impl RpcFault {
             RpcFault::MissingInputs | RpcFault::HeaderRejected(_) => -25,
             RpcFault::InChain => -27,
             RpcFault::Rejected(_) => -26,
-            RpcFault::MiningFailed(_) => -32_603,
+            RpcFault::MiningFailed(_) | RpcFault::Internal(_) => -32_603,
             RpcFault::BadAddress => -30,
             RpcFault::Already => -23,
             RpcFault::NotAdded => -24,
@@ -182,6 +186,7 @@ impl RpcFault {
             RpcFault::Own => "The address is the node's own",
             RpcFault::NoSlot => "No slot is free",
             RpcFault::NetworkOff => "Network activity is disabled",
+            RpcFault::Internal(fault) => fault.name(),
             RpcFault::Memory => "Out of memory",
             RpcFault::Io => "A call of the system failed",
             RpcFault::Ending => "The node is about to end",
@@ -189,13 +194,47 @@ impl RpcFault {
     }
 
     /// The status of the HTTP response that tells it alone, under JSON-RPC 1.0 and 1.1.
-    pub fn status(self) -> u16
+    pub fn status(self) -> ResponseStatus
         ensures { result ≡ status_of self }
     {
         match self.code() {
-            -32_600 => 400,
-            -32_601 => 404,
-            _ => 500,
+            -32_600 => ResponseStatus::BadRequest,
+            -32_601 => ResponseStatus::NotFound,
+            _ => ResponseStatus::ServerError,
+        }
+    }
+}
+
+impl From<AllocError> for RpcFault {
+    ghost use Rattle.cb_rpc_call.specs.declared.fault.RpcFault.TheVariants.{Memory};
+
+    ghost from_gives = { λ _ fault. fault ≡ Memory };
+
+    fn from(_error: AllocError) -> RpcFault {
+        RpcFault::Memory
+    }
+}
+
+impl<T: Drop> From<AllocFailed<T>> for RpcFault {
+    ghost use Rattle.cb_rpc_call.specs.declared.fault.RpcFault.TheVariants.{Memory};
+
+    ghost from_gives = { λ _ fault. fault ≡ Memory };
+
+    fn from(_error: AllocFailed<T>) -> RpcFault {
+        RpcFault::Memory
+    }
+}
+
+/// Where the call can't come to the fault.
+impl From<Fault> for RpcFault {
+    ghost use Rattle.cb_rpc_call.specs.Faults.{internal_fault};
+
+    ghost from_gives = { λ fault told. told ≡ internal_fault fault };
+
+    fn from(fault: Fault) -> RpcFault {
+        match fault {
+            Fault::Memory => RpcFault::Memory,
+            other => RpcFault::Internal(other),
         }
     }
 }

@@ -8,14 +8,13 @@ ghost use Rattle.cb_rpc_call.specs.Starving.{InMemory};
 ghost use Rattle.cb_rpc_call.specs.declared.method.Method.TheVariants as methods;
 
 use crate::arguments::{argument, hash_of, needed_hash, number_of, switch_or};
-use crate::call::Call;
+use crate::call::{Call, ReadCall};
 use crate::chain_calls::{verbosity, word_in};
 use crate::fault::RpcFault;
 use crate::method::Method;
 use cb_base::{Hash256, Shared};
-use cb_block::Block;
+use cb_block::{Block, OutPoint, Tx};
 use cb_control::{read_block, read_tx};
-use cb_tx::{OutPoint, Tx};
 use json::Value;
 use std::alloc::Global;
 
@@ -23,7 +22,7 @@ use std::alloc::Global;
 pub(crate) fn raw_mempool(request: &Value<'_>) -> Result<Call, RpcFault>
     ensures { result ≡ raw_mempool_call (value_view request.now) }
 {
-    Ok(Call::RawMempool(switch_or(false, request, 0, "verbose")?))
+    Ok(Call::Read(ReadCall::RawMempool(switch_or(false, request, 0, "verbose")?)))
 }
 
 /// `getmempoolentry`.
@@ -31,7 +30,7 @@ pub(crate) fn mempool_entry(request: &Value<'_>) -> Result<Call, RpcFault>
     ensures { result ≡ mempool_entry_call (value_view request.now) }
 {
     let txid = needed_hash(Method::GetMempoolEntry, request, 0, "txid")?;
-    Ok(Call::MempoolEntry(txid))
+    Ok(Call::Read(ReadCall::MempoolEntry(txid)))
 }
 
 /// `getrawtransaction`.
@@ -41,7 +40,7 @@ pub(crate) fn raw_transaction(request: &Value<'_>) -> Result<Call, RpcFault>
     let txid = needed_hash(Method::GetRawTransaction, request, 0, "txid")?;
     let verbose = verbose(request)?;
     let block = block_hash(request)?;
-    Ok(Call::RawTransaction(txid, verbose, block))
+    Ok(Call::Read(ReadCall::RawTransaction(txid, verbose, block)))
 }
 
 /// Whether a transaction is told as fields.
@@ -82,7 +81,7 @@ pub(crate) fn tx_out(request: &Value<'_>) -> Result<Call, RpcFault>
     let txid = needed_hash(Method::GetTxOut, request, 0, "txid")?;
     let index = index(request)?;
     let with_mempool = switch_or(true, request, 2, "include_mempool")?;
-    Ok(Call::TxOut(OutPoint { txid, index }, with_mempool))
+    Ok(Call::Read(ReadCall::TxOut(OutPoint { txid, index }, with_mempool)))
 }
 
 /// The number of an output.
@@ -112,7 +111,7 @@ pub(crate) fn decode(alloc: Global, request: &Value<'_>) -> Result<Call, RpcFaul
     let Some(value) = argument(request, 0, "hexstring") else {
         return Err(RpcFault::Usage(Method::DecodeRawTransaction));
     };
-    Ok(Call::DecodeTransaction(tx_of(alloc, value)?))
+    Ok(Call::Read(ReadCall::DecodeTransaction(tx_of(alloc, value)?)))
 }
 
 /// `sendrawtransaction`.
@@ -132,7 +131,7 @@ pub(crate) fn test_accept(alloc: Global, request: &Value<'_>) -> Result<Call, Rp
     let Some(value) = argument(request, 0, "rawtxs") else {
         return Err(RpcFault::Usage(Method::TestMempoolAccept));
     };
-    Ok(Call::TestAccept(only_tx_of(alloc, value)?))
+    Ok(Call::Read(ReadCall::TestAccept(only_tx_of(alloc, value)?)))
 }
 
 /// `submitblock`.

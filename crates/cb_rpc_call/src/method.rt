@@ -2,39 +2,136 @@
 ghost use Rattle.std.specs.Prelude.{◌≡◌};
 ghost use Rattle.cb_rpc_call.specs.Methods.{method_in, method_name, most, takes, usage, usages};
 
+/// The table of the methods, in the order in which `help` lists them, given to another macro. A row
+/// has a method; its name; its parameters, in the order of their places: those that it needs, and
+/// those that may be left out, with an older name behind a bar; and what stands behind its name
+/// where it is told how it is called.
+macro_rules! methods {
+    ($reader:ident $($given:tt)*) => {
+        $reader! {
+            [$($given)*]
+            GetBlockCount = "getblockcount" [] [] "";
+            GetBestBlockHash = "getbestblockhash" [] [] "";
+            GetBlockHash = "getblockhash" ["height"] [] " height";
+            GetBlockHeader = "getblockheader" ["blockhash"] ["verbose"]
+                " \"blockhash\" ( verbose )";
+            GetBlock = "getblock" ["blockhash"] ["verbosity" | "verbose"]
+                " \"blockhash\" ( verbosity )";
+            GetChainTips = "getchaintips" [] [] "";
+            GetBlockchainInfo = "getblockchaininfo" [] [] "";
+            GetRawMempool = "getrawmempool" [] ["verbose"] " ( verbose )";
+            GetMempoolInfo = "getmempoolinfo" [] [] "";
+            GetMempoolEntry = "getmempoolentry" ["txid"] [] " \"txid\"";
+            GetRawTransaction = "getrawtransaction" ["txid"] ["verbosity" | "verbose" "blockhash"]
+                " \"txid\" ( verbosity \"blockhash\" )";
+            GetTxOut = "gettxout" ["txid" "n"] ["include_mempool"]
+                " \"txid\" n ( include_mempool )";
+            DecodeRawTransaction = "decoderawtransaction" ["hexstring"] [] " \"hexstring\"";
+            SendRawTransaction = "sendrawtransaction" ["hexstring"] ["maxfeerate"]
+                " \"hexstring\" ( maxfeerate )";
+            TestMempoolAccept = "testmempoolaccept" ["rawtxs"] ["maxfeerate"]
+                " [\"rawtx\"] ( maxfeerate )";
+            SubmitBlock = "submitblock" ["hexdata"] ["dummy"] " \"hexdata\" ( \"dummy\" )";
+            SubmitHeader = "submitheader" ["hexdata"] [] " \"hexdata\"";
+            Generate = "generate" ["nblocks"] ["maxtries"] " nblocks ( maxtries )";
+            GetNetworkInfo = "getnetworkinfo" [] [] "";
+            GetNetTotals = "getnettotals" [] [] "";
+            GetConnectionCount = "getconnectioncount" [] [] "";
+            GetPeerInfo = "getpeerinfo" [] [] "";
+            AddNode = "addnode" ["node" "command"] [] " \"node\" \"command\"";
+            DisconnectNode = "disconnectnode" [] ["address" "nodeid"] " ( \"address\" nodeid )";
+            SetNetworkActive = "setnetworkactive" ["state"] [] " state";
+            Ping = "ping" [] [] "";
+            Uptime = "uptime" [] [] "";
+            Logging = "logging" [] ["level"] " ( \"level\" )";
+            Help = "help" [] ["command"] " ( \"command\" )";
+            Stop = "stop" [] [] "";
+        }
+    };
+}
+
+/// The method with a name.
+macro_rules! named {
+    ([$given:expr] $($method:ident = $name:literal $needed:tt $others:tt $words:literal;)*) => {
+        match $given {
+            $($name => Some(Method::$method),)*
+            _ => None,
+        }
+    };
+}
+
+/// The name of a method.
+macro_rules! name {
+    ([$given:expr] $($method:ident = $name:literal $needed:tt $others:tt $words:literal;)*) => {
+        match $given {
+            $(Method::$method => $name,)*
+        }
+    };
+}
+
+/// How a method is called.
+macro_rules! usage {
+    ([$given:expr] $($method:ident = $name:literal $needed:tt $others:tt $words:literal;)*) => {
+        match $given {
+            $(Method::$method => concat!($name, $words),)*
+        }
+    };
+}
+
+/// How each method is called, a line each.
+macro_rules! usages {
+    (
+        [] $first:ident = $its:literal $no:tt $none:tt $nothing:literal;
+        $($method:ident = $name:literal $needed:tt $others:tt $words:literal;)*
+    ) => {
+        concat!($its, $nothing $(, "\n", $name, $words)*)
+    };
+}
+
+/// How many arguments a method takes at most.
+macro_rules! most {
+    ([$given:expr] $($method:ident = $name:literal $needed:tt $others:tt $words:literal;)*) => {
+        match $given {
+            $(Method::$method => count!($needed $others),)*
+        }
+    };
+}
+
+/// How many parameters there are.
+macro_rules! count {
+    ([$($needed:literal)*] [$($other:literal $(| $older:literal)?)*]) => {
+        count!($($needed)* $($other)*)
+    };
+    () => { 0 };
+    ($one:literal) => { 1 };
+    ($one:literal $two:literal) => { 2 };
+    ($one:literal $two:literal $three:literal) => { 3 };
+}
+
+/// Whether a method has a parameter with a name.
+macro_rules! takes {
+    (
+        [$given:expr, $sought:expr]
+        $($method:ident = $name:literal $needed:tt $others:tt $words:literal;)*
+    ) => {
+        match $given {
+            $(Method::$method => is_any!($sought, $needed $others),)*
+        }
+    };
+}
+
+/// Whether a parameter has this name.
+macro_rules! is_any {
+    ($sought:expr, [$($needed:literal)*] [$($other:literal $(| $older:literal)?)*]) => {
+        is_any!($sought; $($needed)* $($other)* $($($older)?)*)
+    };
+    ($sought:expr;) => { false };
+    ($sought:expr; $($name:literal)+) => { matches!($sought, $($name)|+) };
+}
+
 /// Every method, as `help` lists them: a line each, its name and its parameters. What stands in
 /// round brackets may be left out.
-pub const METHODS: &str = "\
-getblockcount
-getbestblockhash
-getblockhash height
-getblockheader \"blockhash\" ( verbose )
-getblock \"blockhash\" ( verbosity )
-getchaintips
-getblockchaininfo
-getrawmempool ( verbose )
-getmempoolinfo
-getmempoolentry \"txid\"
-getrawtransaction \"txid\" ( verbosity \"blockhash\" )
-gettxout \"txid\" n ( include_mempool )
-decoderawtransaction \"hexstring\"
-sendrawtransaction \"hexstring\" ( maxfeerate )
-testmempoolaccept [\"rawtx\"] ( maxfeerate )
-submitblock \"hexdata\" ( \"dummy\" )
-submitheader \"hexdata\"
-generate nblocks ( maxtries )
-getnetworkinfo
-getnettotals
-getconnectioncount
-getpeerinfo
-addnode \"node\" \"command\"
-disconnectnode ( \"address\" nodeid )
-setnetworkactive state
-ping
-uptime
-logging ( \"level\" )
-help ( \"command\" )
-stop";
+pub const METHODS: &str = methods!(usages);
 
 /// A method that is answered.
 #[derive(Clone, Copy)]
@@ -76,77 +173,14 @@ impl Method {
     pub fn named(name: &str) -> Option<Method>
         ensures { result ≡ method_in name.now }
     {
-        match name {
-            "getblockcount" => Some(Method::GetBlockCount),
-            "getbestblockhash" => Some(Method::GetBestBlockHash),
-            "getblockhash" => Some(Method::GetBlockHash),
-            "getblockheader" => Some(Method::GetBlockHeader),
-            "getblock" => Some(Method::GetBlock),
-            "getchaintips" => Some(Method::GetChainTips),
-            "getblockchaininfo" => Some(Method::GetBlockchainInfo),
-            "getrawmempool" => Some(Method::GetRawMempool),
-            "getmempoolinfo" => Some(Method::GetMempoolInfo),
-            "getmempoolentry" => Some(Method::GetMempoolEntry),
-            "getrawtransaction" => Some(Method::GetRawTransaction),
-            "gettxout" => Some(Method::GetTxOut),
-            "decoderawtransaction" => Some(Method::DecodeRawTransaction),
-            "sendrawtransaction" => Some(Method::SendRawTransaction),
-            "testmempoolaccept" => Some(Method::TestMempoolAccept),
-            "submitblock" => Some(Method::SubmitBlock),
-            "submitheader" => Some(Method::SubmitHeader),
-            "generate" => Some(Method::Generate),
-            "getnetworkinfo" => Some(Method::GetNetworkInfo),
-            "getnettotals" => Some(Method::GetNetTotals),
-            "getconnectioncount" => Some(Method::GetConnectionCount),
-            "getpeerinfo" => Some(Method::GetPeerInfo),
-            "addnode" => Some(Method::AddNode),
-            "disconnectnode" => Some(Method::DisconnectNode),
-            "setnetworkactive" => Some(Method::SetNetworkActive),
-            "ping" => Some(Method::Ping),
-            "uptime" => Some(Method::Uptime),
-            "logging" => Some(Method::Logging),
-            "help" => Some(Method::Help),
-            "stop" => Some(Method::Stop),
-            _ => None,
-        }
+        methods!(named name)
     }
 
     /// Its name.
     pub fn name(self) -> &'static str
         ensures { result.now ≡ method_name self }
     {
-        match self {
-            Method::GetBlockCount => "getblockcount",
-            Method::GetBestBlockHash => "getbestblockhash",
-            Method::GetBlockHash => "getblockhash",
-            Method::GetBlockHeader => "getblockheader",
-            Method::GetBlock => "getblock",
-            Method::GetChainTips => "getchaintips",
-            Method::GetBlockchainInfo => "getblockchaininfo",
-            Method::GetRawMempool => "getrawmempool",
-            Method::GetMempoolInfo => "getmempoolinfo",
-            Method::GetMempoolEntry => "getmempoolentry",
-            Method::GetRawTransaction => "getrawtransaction",
-            Method::GetTxOut => "gettxout",
-            Method::DecodeRawTransaction => "decoderawtransaction",
-            Method::SendRawTransaction => "sendrawtransaction",
-            Method::TestMempoolAccept => "testmempoolaccept",
-            Method::SubmitBlock => "submitblock",
-            Method::SubmitHeader => "submitheader",
-            Method::Generate => "generate",
-            Method::GetNetworkInfo => "getnetworkinfo",
-            Method::GetNetTotals => "getnettotals",
-            Method::GetConnectionCount => "getconnectioncount",
-            Method::GetPeerInfo => "getpeerinfo",
-            Method::AddNode => "addnode",
-            Method::DisconnectNode => "disconnectnode",
-            Method::SetNetworkActive => "setnetworkactive",
-            Method::Ping => "ping",
-            Method::Uptime => "uptime",
-            Method::Logging => "logging",
-            Method::Help => "help",
-            Method::Stop => "stop",
-        }
+        methods!(name self)
     }
 
     /// Its name and its parameters, as `help` tells them. What stands in round brackets may be left
@@ -154,38 +188,7 @@ impl Method {
     pub fn usage(self) -> &'static str
         ensures { result.now ≡ usage self }
     {
-        match self {
-            Method::GetBlockCount => "getblockcount",
-            Method::GetBestBlockHash => "getbestblockhash",
-            Method::GetBlockHash => "getblockhash height",
-            Method::GetBlockHeader => "getblockheader \"blockhash\" ( verbose )",
-            Method::GetBlock => "getblock \"blockhash\" ( verbosity )",
-            Method::GetChainTips => "getchaintips",
-            Method::GetBlockchainInfo => "getblockchaininfo",
-            Method::GetRawMempool => "getrawmempool ( verbose )",
-            Method::GetMempoolInfo => "getmempoolinfo",
-            Method::GetMempoolEntry => "getmempoolentry \"txid\"",
-            Method::GetRawTransaction => "getrawtransaction \"txid\" ( verbosity \"blockhash\" )",
-            Method::GetTxOut => "gettxout \"txid\" n ( include_mempool )",
-            Method::DecodeRawTransaction => "decoderawtransaction \"hexstring\"",
-            Method::SendRawTransaction => "sendrawtransaction \"hexstring\" ( maxfeerate )",
-            Method::TestMempoolAccept => "testmempoolaccept [\"rawtx\"] ( maxfeerate )",
-            Method::SubmitBlock => "submitblock \"hexdata\" ( \"dummy\" )",
-            Method::SubmitHeader => "submitheader \"hexdata\"",
-            Method::Generate => "generate nblocks ( maxtries )",
-            Method::GetNetworkInfo => "getnetworkinfo",
-            Method::GetNetTotals => "getnettotals",
-            Method::GetConnectionCount => "getconnectioncount",
-            Method::GetPeerInfo => "getpeerinfo",
-            Method::AddNode => "addnode \"node\" \"command\"",
-            Method::DisconnectNode => "disconnectnode ( \"address\" nodeid )",
-            Method::SetNetworkActive => "setnetworkactive state",
-            Method::Ping => "ping",
-            Method::Uptime => "uptime",
-            Method::Logging => "logging ( \"level\" )",
-            Method::Help => "help ( \"command\" )",
-            Method::Stop => "stop",
-        }
+        methods!(usage self)
     }
 
     /// `METHODS`.
@@ -199,55 +202,13 @@ impl Method {
     pub fn most(self) -> usize
         ensures { result ≡ most self }
     {
-        match self {
-            Method::GetBlockHash
-            | Method::GetRawMempool
-            | Method::GetMempoolEntry
-            | Method::DecodeRawTransaction
-            | Method::SubmitHeader
-            | Method::SetNetworkActive
-            | Method::Logging
-            | Method::Help => 1,
-            Method::GetBlockHeader
-            | Method::GetBlock
-            | Method::SendRawTransaction
-            | Method::TestMempoolAccept
-            | Method::SubmitBlock
-            | Method::Generate
-            | Method::AddNode
-            | Method::DisconnectNode => 2,
-            Method::GetRawTransaction | Method::GetTxOut => 3,
-            _ => 0,
-        }
+        methods!(most self)
     }
 
     /// Whether it has a parameter with this name.
     pub fn takes(self, name: &str) -> bool
         ensures { result ≡ takes self name.now }
     {
-        match self {
-            Method::GetBlockHash => matches!(name, "height"),
-            Method::GetBlockHeader => matches!(name, "blockhash" | "verbose"),
-            Method::GetBlock => matches!(name, "blockhash" | "verbosity" | "verbose"),
-            Method::GetRawMempool => matches!(name, "verbose"),
-            Method::GetMempoolEntry => matches!(name, "txid"),
-            Method::GetRawTransaction => matches!(
-                name,
-                "txid" | "verbosity" | "blockhash" | "verbose"
-            ),
-            Method::GetTxOut => matches!(name, "txid" | "n" | "include_mempool"),
-            Method::DecodeRawTransaction => matches!(name, "hexstring"),
-            Method::SendRawTransaction => matches!(name, "hexstring" | "maxfeerate"),
-            Method::TestMempoolAccept => matches!(name, "rawtxs" | "maxfeerate"),
-            Method::SubmitBlock => matches!(name, "hexdata" | "dummy"),
-            Method::SubmitHeader => matches!(name, "hexdata"),
-            Method::Generate => matches!(name, "nblocks" | "maxtries"),
-            Method::AddNode => matches!(name, "node" | "command"),
-            Method::DisconnectNode => matches!(name, "address" | "nodeid"),
-            Method::SetNetworkActive => matches!(name, "state"),
-            Method::Logging => matches!(name, "level"),
-            Method::Help => matches!(name, "command"),
-            _ => false,
-        }
+        methods!(takes self, name)
     }
 }

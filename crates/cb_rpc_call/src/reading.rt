@@ -7,7 +7,7 @@ ghost use Rattle.json.specs.Find.{at};
 ghost use Rattle.cb_rpc_call.specs.Lacking.{lacking_in};
 ghost use Rattle.cb_rpc_call.specs.Methods.{method_in, most, takes};
 
-use crate::call::Call;
+use crate::call::{Call, ReadCall};
 use crate::fault::RpcFault;
 use crate::lacking::lacking;
 use crate::method::Method;
@@ -109,15 +109,15 @@ fn fitting(alloc: Global, method: Method, request: &Value<'_>) -> Result<Call, R
     ensures { ReadsFitting method (value_view request.now) result }
 {
     match method {
-        Method::GetBlockCount => Ok(Call::BlockCount),
-        Method::GetBestBlockHash => Ok(Call::BestBlockHash),
+        Method::GetBlockCount => Ok(Call::Read(ReadCall::BlockCount)),
+        Method::GetBestBlockHash => Ok(Call::Read(ReadCall::BestBlockHash)),
         Method::GetBlockHash => chain_calls::block_hash(request),
         Method::GetBlockHeader => chain_calls::block_header(request),
         Method::GetBlock => chain_calls::block(request),
-        Method::GetChainTips => Ok(Call::ChainTips),
-        Method::GetBlockchainInfo => Ok(Call::ChainInfo),
+        Method::GetChainTips => Ok(Call::Read(ReadCall::ChainTips)),
+        Method::GetBlockchainInfo => Ok(Call::Read(ReadCall::ChainInfo)),
         Method::GetRawMempool => mempool_calls::raw_mempool(request),
-        Method::GetMempoolInfo => Ok(Call::MempoolInfo),
+        Method::GetMempoolInfo => Ok(Call::Read(ReadCall::MempoolInfo)),
         Method::GetMempoolEntry => mempool_calls::mempool_entry(request),
         Method::GetRawTransaction => mempool_calls::raw_transaction(request),
         Method::GetTxOut => mempool_calls::tx_out(request),

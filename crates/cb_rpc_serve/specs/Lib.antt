@@ -1,1 +1,4 @@
+pub mod Service
 pub mod Serving
+pub mod Starting
+pub mod Words

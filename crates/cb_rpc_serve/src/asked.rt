@@ -1,15 +1,14 @@
 //! The way of a call to the thread that answers, and of the answer back.
 ghost use Rattle.std.specs.Prelude.{⊤};
 
-use cb_rpc::Node;
+use cb_rpc::{CallHandler, CallResult};
 use cb_rpc_call::{Call, RpcFault};
-use cb_rpc_json::Told;
 use crossbeam_channel::{Receiver, Sender};
 use std::alloc::Global;
 use std::sync::Wait;
 
 /// What is answered to a call.
-pub type Answer = Result<Told, RpcFault>;
+pub type CallOutcome = Result<CallResult, RpcFault>;
 
 /// A call, and which worker waits for the answer.
 #[derive(Drop)]
@@ -21,8 +20,7 @@ pub struct Asked {
 }
 
 /// A worker's way to the thread that answers.
-#[derive(Drop)]
-pub struct Line<R: Drop> {
+pub struct CallChannel<R: Drop> {
     /// What waiting needs.
     pub rt: R,
     /// Which worker's it is.
@@ -30,14 +28,25 @@ pub struct Line<R: Drop> {
     /// Where calls go.
     pub calls: Sender<Asked, Global>,
     /// Where the answers to this worker's calls come from.
-    pub answers: Receiver<Answer, Global>,
+    pub answers: Receiver<CallOutcome, Global>,
 }
 
-impl<R: Wait + Drop> Node for Line<R> {
+impl<R: Drop> Drop for CallChannel<R> {
+    fn drop(self) {
+        let CallChannel {
+            rt: _,
+            worker: _,
+            calls: _,
+            answers: _,
+        } = self;
+    }
+}
+
+impl<R: Wait + Drop> CallHandler for CallChannel<R> {
     ghost answers = { λ line call outcome. ⊤ };
 
     /// Waits until the call is answered. At the end of the server it is refused.
-    fn ask(&self, call: Call) -> Result<Told, RpcFault> {
+    fn ask(&self, call: Call) -> Result<CallResult, RpcFault> {
         let asked = Asked {
             worker: self.worker,
             call,

@@ -1,15 +1,16 @@
 //! Serving one connection.
-use crate::common::Common;
-use crate::desk::Desk;
-use crate::host::WorkerHost;
-use crate::pace::Pace;
+use crate::connection_timer::ConnectionTimer;
+use crate::request_handler::RequestHandler;
+use crate::server_state::ServerState;
 use http_server::{Config, Connection};
 use std::alloc::Global;
 use std::hash::RandomState;
 use std::io;
 use std::io::ErrorKind;
 use std::net::TcpStream;
-use std::time::Duration;
+use std::random::RandomSource;
+use std::sync::Wait;
+use std::time::{Clock, Duration};
 
 /// How many bytes a request's body may have.
 const MOST_BODY_BYTES: usize = 4_000_000;
@@ -19,21 +20,21 @@ const MOST_BODY_BYTES: usize = 4_000_000;
 const WAIT_MILLISECONDS: u64 = 500;
 
 /// Serves one connection, until the peer ends it, takes too long, or the server ends.
-pub fn converse<R: WorkerHost>(
+pub fn converse<R: Wait + Clock + RandomSource + Drop>(
     rt: &R,
     alloc: Global,
-    common: &Common,
-    desk: &mut Desk<R>,
+    state: &ServerState,
+    handler: &mut RequestHandler<R>,
     stream: &TcpStream,
 ) -> io::Result<()> {
     prepare(stream)?;
     let mut connection = open(rt, alloc)?;
-    let mut pace = Pace::begin(rt, desk.answered)?;
+    let mut timer = ConnectionTimer::begin(rt, handler.answered)?;
     for _ in rt.forever() {
-        if !take_turn(rt, &mut connection, &mut pace, desk, stream)? {
+        if !take_turn(rt, &mut connection, &mut timer, handler, stream)? {
             break;
         }
-        if pace.is_late(rt, wants_write(&connection), common.is_ending())? {
+        if timer.is_late(rt, wants_write(&connection), state.is_ending())? {
             break;
         }
     }
@@ -49,7 +50,7 @@ fn prepare(stream: &TcpStream) -> io::Result<()> {
 }
 
 /// A connection to which nothing has come.
-fn open<R: WorkerHost>(rt: &R, alloc: Global) -> io::Result<Connection> {
+fn open<R: RandomSource>(rt: &R, alloc: Global) -> io::Result<Connection> {
     let config = Config {
         max_body_len: MOST_BODY_BYTES,
         ..Config::default()
@@ -58,31 +59,31 @@ fn open<R: WorkerHost>(rt: &R, alloc: Global) -> io::Result<Connection> {
 }
 
 /// Answers what has come, and writes or reads once. Returns whether the connection goes on.
-fn take_turn<R: WorkerHost>(
+fn take_turn<R: Wait + Clock + Drop>(
     rt: &R,
     connection: &mut Connection,
-    pace: &mut Pace,
-    desk: &mut Desk<R>,
+    timer: &mut ConnectionTimer,
+    handler: &mut RequestHandler<R>,
     stream: &TcpStream,
 ) -> io::Result<bool> {
-    answer(connection, desk);
-    pace.note_answers(rt, desk.answered)?;
+    answer(connection, handler);
+    timer.note_answers(rt, handler.answered)?;
     if is_done(connection) {
         return Ok(false);
     }
     if wants_write(connection) {
         if moves(write(connection, stream))? {
-            pace.note_write(rt)?;
+            timer.note_write(rt)?;
         }
     } else if moves(read(connection, stream))? {
-        pace.note_read(rt)?;
+        timer.note_read(rt)?;
     }
     Ok(true)
 }
 
 /// Answers the requests that have come.
-fn answer<R: WorkerHost>(connection: &mut Connection, desk: &mut Desk<R>) {
-    connection.advance(desk);
+fn answer<R: Wait + Clock + Drop>(connection: &mut Connection, handler: &mut RequestHandler<R>) {
+    connection.advance(handler);
 }
 
 /// Whether nothing more is to be written or read.

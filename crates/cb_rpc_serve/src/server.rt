@@ -1,11 +1,13 @@
 //! A server of calls, as the thread that answers them sees it.
-use crate::asked::{Answer, Asked, Line};
-use crate::common::Common;
-use crate::desk::Desk;
-use crate::host::RpcHost;
-use crate::settings::{RpcSettings, StartError};
+use crate::asked::{Asked, CallChannel, CallOutcome};
+use crate::password::Password;
+use crate::request_handler::RequestHandler;
+use crate::rpc::Rpc;
+use crate::server_state::ServerState;
+use crate::settings::RpcSettings;
+use crate::start_fault::StartFault;
 use crate::working::{Worker, start_worker};
-use cb_rpc_http::{Password, Rpc};
+use cb_control::Host;
 use crossbeam_channel::{Receiver, RecvTimeoutError, Sender, bounded};
 use std::alloc::{AllocError, Global};
 use std::net::{IpAddr, Ipv4Addr, Ipv6Addr, SocketAddr, TcpListener, TcpStream};
@@ -24,17 +26,29 @@ const WAKE_MILLISECONDS: u64 = 500;
 
 /// A server of calls. Its threads serve JSON-RPC over HTTP, and hand each call to who has the
 /// server.
-#[derive(Drop)]
 pub struct Server {
-    common: Arc<Common, Global>,
+    state: Arc<ServerState, Global>,
     address: SocketAddr,
     /// The calls that wait to be answered.
     coming: Receiver<Asked, Global>,
     /// The ways back to the workers.
-    backs: Vec<Sender<Answer, Global>>,
+    backs: Vec<Sender<CallOutcome, Global>>,
     threads: Vec<JoinHandle<()>>,
     /// It has no sender any more once all workers are about to return.
     over: Receiver<(), Global>,
+}
+
+impl Drop for Server {
+    fn drop(self) {
+        let Server {
+            state: _,
+            address: _,
+            coming: _,
+            backs: _,
+            threads: _,
+            over: _,
+        } = self;
+    }
 }
 
 /// What is given to each new worker.
@@ -46,13 +60,13 @@ struct Ways {
 
 impl Server {
     /// Listens, and starts the threads.
-    pub fn start<R: RpcHost>(
+    pub fn start<R: Host>(
         rt: R,
         alloc: Global,
         settings: &RpcSettings,
-    ) -> Result<Server, StartError> {
+    ) -> Result<Server, StartFault> {
         if !settings.remote && !settings.address.ip().is_loopback() {
-            return Err(StartError::NotLoopback);
+            return Err(StartFault::NotAllowed);
         }
         let listener = TcpListener::bind(&rt, settings.address)?;
         let address = listener.local_addr()?;
@@ -74,11 +88,11 @@ impl Server {
         listener: TcpListener,
         address: SocketAddr,
     ) -> Result<(Server, Ways), AllocError> {
-        let common = Arc::new(alloc, Common::new(listener))?;
+        let state = Arc::new(alloc, ServerState::new(listener))?;
         let (calls, coming) = bounded(alloc, WORKERS)?;
         let (over_sender, over) = bounded(alloc, 1)?;
         let server = Server {
-            common,
+            state,
             address,
             coming,
             backs: Vec::with_capacity(alloc, WORKERS)?,
@@ -93,27 +107,27 @@ impl Server {
     }
 
     /// Starts all workers.
-    fn start_all<R: RpcHost>(
+    fn start_all<R: Host>(
         &mut self,
         rt: R,
         alloc: Global,
         settings: &RpcSettings,
         ways: &Ways,
-    ) -> Result<(), StartError> {
+    ) -> Result<(), StartFault> {
         for worker in 0..WORKERS {
             let ready = self.prepare(rt, alloc, settings, ways, worker)?;
             let Some(thread) = start_worker(&rt, alloc, ready) else {
-                return Err(StartError::NoMeans);
+                return Err(StartFault::NoMeans);
             };
             if self.threads.push(thread).is_err() {
-                return Err(StartError::Memory);
+                return Err(StartFault::Memory);
             }
         }
         Ok(())
     }
 
     /// What a worker has.
-    fn prepare<R: RpcHost>(
+    fn prepare<R: Host>(
         &mut self,
         rt: R,
         alloc: Global,
@@ -123,7 +137,7 @@ impl Server {
     ) -> Result<Worker<R>, AllocError> {
         let (back, answers) = bounded(alloc, 1)?;
         self.backs.push(back)?;
-        let node = Line {
+        let node = CallChannel {
             rt,
             worker,
             calls: ways.calls.clone()?,
@@ -135,14 +149,14 @@ impl Server {
             password: Password::new(alloc, settings.user_and_password.as_str())?,
             remote: settings.remote,
         };
-        let desk = Desk {
+        let handler = RequestHandler {
             rt,
             rpc,
             answered: 0,
         };
         Ok(Worker {
-            common: Arc::try_clone(&self.common)?,
-            desk,
+            state: Arc::try_clone(&self.state)?,
+            handler,
             over: ways.over.clone()?,
         })
     }
@@ -153,12 +167,12 @@ impl Server {
     }
 
     /// The next call that waits to be answered. Waits for one at most so long.
-    pub fn next<R: RpcHost>(&self, rt: &R, pause: Duration) -> Option<Asked> {
+    pub fn next<R: Host>(&self, rt: &R, pause: Duration) -> Option<Asked> {
         self.coming.recv_timeout(rt, pause).ok()
     }
 
     /// Answers the call for which this worker waits.
-    pub fn answer<R: RpcHost>(&self, rt: &R, worker: usize, answer: Answer) {
+    pub fn answer<R: Host>(&self, rt: &R, worker: usize, answer: CallOutcome) {
         if let Some(back) = self.backs.get(worker) {
             drop(back.send(rt, answer));
         }
@@ -168,16 +182,16 @@ impl Server {
     ///
     /// A thread that doesn't return within 5 seconds is left behind, and cut off when the program's
     /// `main` returns.
-    pub fn end<R: RpcHost>(self, rt: &R) {
+    pub fn end<R: Host>(self, rt: &R) {
         let Server {
-            common,
+            state,
             address,
             coming,
             backs,
             threads,
             over,
         } = self;
-        common.end();
+        state.end();
         drop((coming, backs));
         wake_all(rt, address);
         match over.recv_timeout(rt, Duration::from_secs(END_SECONDS)) {
@@ -188,14 +202,14 @@ impl Server {
 }
 
 /// Waits for threads that are about to return.
-fn join_all<R: RpcHost>(rt: &R, threads: Vec<JoinHandle<()>>) {
+fn join_all<R: Host>(rt: &R, threads: Vec<JoinHandle<()>>) {
     for thread in threads {
         thread.join(rt);
     }
 }
 
 /// Connects to the own address once for each worker, so that none waits for a connection.
-fn wake_all<R: RpcHost>(rt: &R, address: SocketAddr) {
+fn wake_all<R: Host>(rt: &R, address: SocketAddr) {
     let address = dialled(address);
     for _ in 0..WORKERS {
         let wait = Duration::from_millis(WAKE_MILLISECONDS);

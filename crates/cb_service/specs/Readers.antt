@@ -1,7 +1,7 @@
 -- The threads of readers.
 use Rattle.std.specs.declared.thread.PromisedHandle.{PromisedHandle}
-use Rattle.cb_inbox.specs.declared.queued.Queued.{Queued}
-use Rattle.cb_inbox.specs.Seat.{InboxState, SeatState}
+use Rattle.cb_crew.specs.declared.queued.Queued.{Queued}
+use Rattle.cb_crew.specs.Seat.{InboxState, SeatState}
 use Rattle.cb_service.specs.declared.promises.OfReader.{OfReader}
 use Rattle.cb_service.specs.declared.promises.ReaderEnd.{ReaderEnd}
 

@@ -2,7 +2,7 @@ ghost use Rattle.std.specs.Prelude.{◌≡◌, ◌≤◌};
 ghost use Rattle.cb_crew.specs.Crew.{IsHandlerOf};
 
 use crate::signals::{Bed, Signals};
-use cb_crew::{Crew, Handler, Turn, Work};
+use cb_crew::{Crew, Handler, TurnOutcome, Work};
 use std::sync::Wait;
 
 /// What a handler's thread does after each of its turns. The desk was given back by then. A tick
@@ -10,7 +10,7 @@ use std::sync::Wait;
 /// a peer from whose inbox marks were taken is woken after this call.
 pub trait AfterTurn {
     /// Does what is to be done after this turn.
-    fn after_turn<R: Wait>(&self, rt: &R, turn: Turn);
+    fn after_turn<R: Wait>(&self, rt: &R, turn: TurnOutcome);
 }
 
 /// Nothing is done after a turn.
@@ -18,7 +18,7 @@ pub trait AfterTurn {
 pub struct Nothing;
 
 impl AfterTurn for Nothing {
-    fn after_turn<R: Wait>(&self, _rt: &R, _turn: Turn) {}
+    fn after_turn<R: Wait>(&self, _rt: &R, _turn: TurnOutcome) {}
 }
 
 /// What a handler's thread is set up with.
@@ -113,11 +113,11 @@ pub(crate) fn handle<W: Work, H: AfterTurn, R: Wait>(
         let turn = handler.turn(rt, crew, budget);
         setup.hook.after_turn(rt, turn);
         match turn {
-            Turn::Served(peer, _, _) => {
+            TurnOutcome::Served(peer, _, _) => {
                 signals.make_room(peer);
                 vigil.served(signals);
             }
-            Turn::Idle(_) | Turn::Shut(_) | Turn::NoDesk => {
+            TurnOutcome::Idle(_) | TurnOutcome::Shut(_) | TurnOutcome::NoDesk => {
                 if vigil.is_in_vain(crew.peers()) {
                     if stopped {
                         vigil.stand_up(signals);
@@ -126,7 +126,7 @@ pub(crate) fn handle<W: Work, H: AfterTurn, R: Wait>(
                     vigil.rest(rt, signals);
                 }
             }
-            Turn::Spent => {
+            TurnOutcome::Spent => {
                 vigil.stand_up(signals);
                 return handler;
             }

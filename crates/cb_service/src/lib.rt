@@ -15,11 +15,12 @@ mod thread_fault;
 
 pub use handling::{AfterTurn, HandlerSetup, Nothing};
 pub use promises::{
-    Handling, OfCrew, OfReader, ReaderEnd, Reading, join_handler, join_handlers, join_reader,
+    HandlerThread, OfCrew, OfReader, ReaderEnd, ReaderThread, join_handler, join_handlers,
+    join_reader,
 };
 pub use queueing::{MOST_QUEUED, Unopened, end, offer, offer_end, offer_open, open, put};
 pub use reader::{Account, Reader, Untold};
-pub use side::Side;
+pub use side::CountedSide;
 pub use signals::Signals;
 pub use sleeper::Sleeper;
 pub use starting::{NoHandler, NoReader, start_handler, start_handlers, start_reader};

@@ -6,9 +6,8 @@ ghost use Rattle.cb_service.specs.Readers.{inbox_for, seat_for};
 ghost use Rattle.cb_service.specs.Service.{HandBack, IsLeftBy, crew_of, handler_of};
 
 use crate::reader::Account;
-use crate::side::Side;
-use cb_crew::{Crew, Fresh, Handler, Work};
-use cb_inbox::{Inbox, Opening, ReaderSeat};
+use crate::side::CountedSide;
+use cb_crew::{Crew, Fresh, Handler, Inbox, Opening, ReaderSeat, Work};
 use std::marker::PhantomData;
 use std::snapshot::Snapshot;
 use std::thread::{Promise, PromisedHandle, Threads};
@@ -30,7 +29,7 @@ impl<W: Work> Promise<Handler<W>> for OfCrew<W> {
 #[derive(Drop)]
 pub struct ReaderEnd<M: Drop, O: Opening + Drop, K: Drop> {
     /// Its side of the inbox.
-    pub side: Side<M, O>,
+    pub side: CountedSide<M, O>,
     /// Its account. None if nothing was read: the side is that of its seat then.
     pub account: Option<K>,
 }
@@ -51,13 +50,16 @@ impl<W: Work, K: Account<W::Item, Fresh<W>>> Promise<ReaderEnd<W::Item, Fresh<W>
 }
 
 /// A handler's thread.
-pub type Handling<W> = PromisedHandle<Handler<W>, OfCrew<W>>;
+pub type HandlerThread<W> = PromisedHandle<Handler<W>, OfCrew<W>>;
 
 /// A reader's thread, whose account is a `K`.
-pub type Reading<W, K> = PromisedHandle<ReaderEnd<<W as Work>::Item, Fresh<W>, K>, OfReader<W, K>>;
+pub type ReaderThread<W, K> = PromisedHandle<
+    ReaderEnd<<W as Work>::Item, Fresh<W>, K>,
+    OfReader<W, K>,
+>;
 
 /// Waits until a handler's thread returns, and returns its handler.
-pub fn join_handler<W: Work, R: Threads>(rt: &R, thread: Handling<W>) -> Handler<W>
+pub fn join_handler<W: Work, R: Threads>(rt: &R, thread: HandlerThread<W>) -> Handler<W>
     ensures crew { IsHandlerOf (crew_of thread) result }
     ensures room { result.room ≡ (handler_of thread).room }
 {
@@ -71,7 +73,7 @@ pub fn join_handler<W: Work, R: Threads>(rt: &R, thread: Handling<W>) -> Handler
 /// `Crew::finish` takes these handlers.
 pub fn join_handlers<W: Work, R: Threads>(
     rt: &R,
-    threads: Vec<Handling<W>>,
+    threads: Vec<HandlerThread<W>>,
     handlers: Vec<Handler<W>>,
 ) -> Vec<Handler<W>>
     requires room { (handlers.items ≡ []) × (length threads.items ≤ vec_capacity handlers) }
@@ -89,7 +91,7 @@ pub fn join_handlers<W: Work, R: Threads>(
 /// Waits until a reader's thread returns, and returns the reader's side and its account.
 pub fn join_reader<W: Work, K: Account<W::Item, Fresh<W>>, R: Threads>(
     rt: &R,
-    thread: Reading<W, K>,
+    thread: ReaderThread<W, K>,
 ) -> ReaderEnd<W::Item, Fresh<W>, K>
     ensures inbox { inbox_of result.side ≡ (inbox_for thread).name }
     ensures account { IsLeftBy K.tells (seat_for thread) result.side result.account }

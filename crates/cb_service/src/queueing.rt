@@ -1,14 +1,13 @@
 ghost use Rattle.std.specs.Prelude.{◌≡◌, ◌<◌, ◌^◌, length, IfOk, IfErr, OnOk, MatchBool};
-ghost use Rattle.cb_inbox.specs.declared.queued.Queued.TheVariants.{Item, End, Open};
-ghost use Rattle.cb_inbox.specs.Seat.{IsFullBy, queued_more};
+ghost use Rattle.cb_crew.specs.declared.queued.Queued.TheVariants.{Item, End, Open};
+ghost use Rattle.cb_crew.specs.Seat.{IsFullBy, queued_more};
 ghost use Rattle.cb_crew.specs.Crew.{inbox_of};
 ghost use Rattle.cb_service.specs.Service.{EndsOrStays, HasEnded, ended_of};
 
-use crate::side::Side;
+use crate::side::CountedSide;
 use crate::signals::Signals;
 use cb_base::Fault;
-use cb_crew::ReaderSide;
-use cb_inbox::{EndedSeat, Full, Inbox, Opening, ReaderSeat};
+use cb_crew::{EndedSeat, Full, Inbox, Opening, ReaderSeat, ReaderSide};
 use std::sync::Wait;
 
 /// With this many marks queued, `put`, `end` and `open` queue no more. An inbox takes fewer than
@@ -95,9 +94,9 @@ pub fn put<M: Drop, O: Opening + Drop, R: Wait>(
 pub fn end<M: Drop, O: Opening + Drop, R: Wait>(
     rt: &R,
     inbox: &Inbox<M, O>,
-    side: Side<M, O>,
+    side: CountedSide<M, O>,
     signals: &Signals,
-) -> Side<M, O>
+) -> CountedSide<M, O>
     requires inbox { inbox_of side ≡ inbox.now.name }
     ensures end { HasEnded side result }
     ensures inbox { inbox_of result ≡ inbox.now.name }
@@ -108,15 +107,15 @@ pub fn end<M: Drop, O: Opening + Drop, R: Wait>(
     }
     let mut seat = match side.into_side() {
         ReaderSide::Live(seat) => seat,
-        ReaderSide::Ended(ended) => return Side::ended(ended, queued),
+        ReaderSide::Ended(ended) => return CountedSide::ended(ended, queued),
     };
     for _ in rt.forever() {
         match offer_end(rt, inbox, seat, signals) {
-            Ok(ended) => return Side::ended(ended, queued + 1),
+            Ok(ended) => return CountedSide::ended(ended, queued + 1),
             Err(back) => seat = back,
         }
         if signals.is_stopped() {
-            return Side::live(seat);
+            return CountedSide::live(seat);
         }
         signals.wait_for_room(rt, inbox.peer());
     }
@@ -127,7 +126,7 @@ pub fn end<M: Drop, O: Opening + Drop, R: Wait>(
 #[derive(Drop)]
 pub struct Unopened<M: Drop, O: Opening + Drop> {
     /// The side: unchanged, or after the end of its connection.
-    pub side: Side<M, O>,
+    pub side: CountedSide<M, O>,
     /// What was to serve the connection.
     pub opening: O,
     /// `Fault::NoMore` if no further one can be opened, else `Fault::Full`.
@@ -143,7 +142,7 @@ pub struct Unopened<M: Drop, O: Opening + Drop> {
 pub fn offer_open<M: Drop, O: Opening + Drop, R: Wait>(
     rt: &R,
     inbox: &Inbox<M, O>,
-    side: Side<M, O>,
+    side: CountedSide<M, O>,
     signals: &Signals,
     opening: O,
 ) -> Result<ReaderSeat<M, O>, Unopened<M, O>>
@@ -170,7 +169,7 @@ pub fn offer_open<M: Drop, O: Opening + Drop, R: Wait>(
             Ok(ended) => (ended, count + 1),
             Err(seat) => {
                 return Err(Unopened {
-                    side: Side::live(seat),
+                    side: CountedSide::live(seat),
                     opening,
                     cause: Fault::Full,
                 });
@@ -183,7 +182,7 @@ pub fn offer_open<M: Drop, O: Opening + Drop, R: Wait>(
             Ok(seat)
         }
         Err(refused) => Err(Unopened {
-            side: Side::ended(refused.seat, count),
+            side: CountedSide::ended(refused.seat, count),
             opening: refused.opening,
             cause: refused.cause,
         }),
@@ -199,10 +198,10 @@ pub fn offer_open<M: Drop, O: Opening + Drop, R: Wait>(
 pub fn open<M: Drop, O: Opening + Drop, R: Wait>(
     rt: &R,
     inbox: &Inbox<M, O>,
-    side: Side<M, O>,
+    side: CountedSide<M, O>,
     signals: &Signals,
     opening: O,
-) -> Result<ReaderSeat<M, O>, Side<M, O>>
+) -> Result<ReaderSeat<M, O>, CountedSide<M, O>>
     requires inbox { inbox_of side ≡ inbox.now.name }
     requires fresh { O.fresh opening }
     ensures opened { IfOk result (λ seat. seat ≡ queued_more (ended_of side) (Open opening)) }

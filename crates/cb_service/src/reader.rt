@@ -2,16 +2,16 @@ ghost use Rattle.std.specs.Prelude.{◌≡◌, ◌<◌, ◌^◌, length};
 ghost use Rattle.cb_crew.specs.Crew.{inbox_of};
 ghost use Rattle.cb_service.specs.Service.{queued_by};
 
-use crate::side::Side;
+use crate::side::CountedSide;
 use crate::signals::Signals;
-use cb_inbox::{Inbox, Opening, ReaderSeat};
+use cb_crew::{Inbox, Opening, ReaderSeat};
 use std::sync::Wait;
 
 /// What a reader's thread keeps of what it read, over items `M` and what an open mark brings, `O`.
 /// It may be for proofs alone.
 pub trait Account<M: Drop, O: Opening + Drop>: Drop {
     ghost use Rattle.std.specs.Prelude.{List};
-    ghost use Rattle.cb_inbox.specs.declared.queued.Queued.{Queued};
+    ghost use Rattle.cb_crew.specs.declared.queued.Queued.{Queued};
 
     /// It tells how what lay queued before, the first list, came to the second by what was read.
     ghost tells: { Self → List (Queued M O) → List (Queued M O) → Type 0 };
@@ -41,7 +41,7 @@ pub trait Reader<M: Drop, O: Opening + Drop, K: Account<M, O>>: Drop {
         inbox: &Inbox<M, O>,
         seat: &mut Option<ReaderSeat<M, O>>,
         signals: &Signals,
-    ) -> (Side<M, O>, K)
+    ) -> (CountedSide<M, O>, K)
         requires seat { HoldsSeat inbox.now.name seat.old }
         ensures inbox { inbox_of result.0 ≡ inbox.now.name }
         ensures account { IfSome seat.old
@@ -55,7 +55,7 @@ pub(crate) fn read_from<M: Drop, O: Opening + Drop, K: Account<M, O>, D: Reader<
     inbox: &Inbox<M, O>,
     seat: ReaderSeat<M, O>,
     signals: &Signals,
-) -> (Side<M, O>, K)
+) -> (CountedSide<M, O>, K)
     requires inbox { seat.inbox ≡ inbox.now.name }
     requires place { length seat.queued < 2 ^ 48 }
     ensures inbox { inbox_of result.0 ≡ inbox.now.name }

@@ -38,7 +38,6 @@ const ASLEEP: u32 = 16;
 /// - If a handler holds the desk as (1) happens, it gives it back before it sleeps. Either that is
 ///   before (2), so before each such (b) begins; or (2) saw it lie awake or do neither, and its own
 ///   (b) begins afterwards.
-#[derive(Drop)]
 pub struct Signals {
     stopped: AtomicBool,
     /// A bit for each handler that lies down, and one more while it sleeps.
@@ -49,6 +48,18 @@ pub struct Signals {
     handlers: Vec<Sleeper>,
     /// Where each peer's reader waits for room.
     readers: Vec<Sleeper>,
+}
+
+impl Drop for Signals {
+    fn drop(self) {
+        let Signals {
+            stopped: _,
+            resting: _,
+            beds: _,
+            handlers: _,
+            readers: _,
+        } = self;
+    }
 }
 
 /// Where one handler sleeps.

@@ -5,14 +5,13 @@ ghost use Rattle.cb_service.specs.Readers.{inbox_for, seat_for};
 ghost use Rattle.cb_service.specs.Service.{HandBack, IsInboxAt, IsLeftBy, crew_of, handler_of};
 
 use crate::handling::{AfterTurn, HandlerSetup, handle};
-use crate::promises::{Handling, OfCrew, OfReader, ReaderEnd, Reading, join_handler};
+use crate::promises::{HandlerThread, OfCrew, OfReader, ReaderEnd, ReaderThread, join_handler};
 use crate::reader::{Account, Reader, read_from};
-use crate::side::Side;
+use crate::side::CountedSide;
 use crate::signals::Signals;
 use crate::thread_fault::ThreadFault;
 use cb_base::Shared;
-use cb_crew::{Crew, Fresh, Handler, ReaderSide, Work};
-use cb_inbox::{Opening, ReaderSeat};
+use cb_crew::{Crew, Fresh, Handler, Opening, ReaderSeat, ReaderSide, Work};
 use std::alloc::{AllocError, Global};
 use std::marker::{Copy, PhantomData, Send};
 use std::snapshot::Snapshot;
@@ -51,7 +50,7 @@ pub fn start_handler<
     signals: Shared<Signals>,
     setup: HandlerSetup<H>,
     handler: Handler<W>,
-) -> Result<Handling<W>, NoHandler<W>>
+) -> Result<HandlerThread<W>, NoHandler<W>>
 where
     W::Item: Send + 'static,
     requires budget { (1 ≤ setup.budget) × (setup.budget ≤ 64) }
@@ -119,7 +118,7 @@ pub fn start_handlers<
     signals: &Shared<Signals>,
     setup: &HandlerSetup<H>,
     handlers: Vec<Handler<W>>,
-) -> Result<Vec<Handling<W>>, ThreadFault>
+) -> Result<Vec<HandlerThread<W>>, ThreadFault>
 where
     W::Item: Send + 'static,
     requires budget { (1 ≤ setup.now.budget) × (setup.now.budget ≤ 64) }
@@ -151,7 +150,7 @@ fn start_one<
     signals: &Shared<Signals>,
     setup: &HandlerSetup<H>,
     handler: Handler<W>,
-) -> Result<Handling<W>, ThreadFault>
+) -> Result<HandlerThread<W>, ThreadFault>
 where
     W::Item: Send + 'static,
     requires budget { (1 ≤ setup.now.budget) × (setup.now.budget ≤ 64) }
@@ -173,7 +172,7 @@ where
 /// Waits until these threads return. Returns the given cause.
 fn joined<W: Work, R: Threads>(
     rt: &R,
-    threads: Vec<Handling<W>>,
+    threads: Vec<HandlerThread<W>>,
     cause: ThreadFault,
 ) -> ThreadFault {
     for thread in threads {
@@ -200,7 +199,7 @@ pub fn start_reader<
     peer: u16,
     seat: ReaderSeat<W::Item, Fresh<W>>,
     reader: D,
-) -> Result<Reading<W, K>, NoReader<W>>
+) -> Result<ReaderThread<W, K>, NoReader<W>>
 where
     W::Item: Send + 'static,
     requires peer { peer < length crew.inboxes }
@@ -234,7 +233,7 @@ where
             let (rt, crew, signals) = (rt_of_thread, crew, signals);
             if flag.load(Ordering::SeqCst) {
                 return ReaderEnd {
-                    side: Side::live(seat),
+                    side: CountedSide::live(seat),
                     account: None,
                 };
             }

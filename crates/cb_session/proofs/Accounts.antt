@@ -10,11 +10,11 @@ use Rattle.cb_base.specs.declared.fault.Fault.TheVariants.{JournalFull, Memory}
 use Rattle.cb_wire.specs.declared.message.Message.{Message}
 use Rattle.cb_wire.specs.Envelope.{envelope_text, text}
 use Rattle.cb_wire.specs.Stream.{texts}
-use Rattle.cb_talk.specs.Writing.{counted, IsTextOfLast, Wrote}
-use Rattle.cb_talk.proofs.Writes.{tells_still}
+use Rattle.cb_peer_state.specs.Writing.{counted, IsTextOfLast, Wrote}
+use Rattle.cb_peer_state.proofs.Writes.{tells_still}
 use Rattle.cb_base.proofs.Known.{Appends-then}
-use Rattle.cb_journal.specs.declared.answer.Answer.{Answer}
-use Rattle.cb_journal.specs.declared.question.Question.{Question}
+use Rattle.cb_hall.specs.declared.answer.Answer.{Answer}
+use Rattle.cb_hall.specs.declared.question.Question.{Question}
 use Rattle.cb_hall.specs.Badge.{BadgeState}
 use Rattle.cb_hall.specs.Histories.{Reply}
 use Rattle.cb_peer_state.specs.declared.settings.Settings.{Settings}

@@ -1,10 +1,9 @@
 -- What a connection has heard: its inputs against what the bytes spell.
-use Rattle.std.proofs.Common.{◌≡◌, ◌≢◌, ◌<◌, ℕ, ◌+◌, ◌≤◌, Bool, true, false, cond, ◌||◌, List, [], ◌∷◌, ◌++◌, length, take, Option, Some, None, Result, Ok, Err, refl, sym, ap, subst, ◌∙◌, append_assoc, arith, inl, inr, ◌⊎◌}
+use Rattle.std.proofs.Common.{◌≡◌, ◌≢◌, ◌<◌, ℕ, Bool, true, false, cond, ◌||◌, List, [], ◌∷◌, ◌++◌, length, Option, Some, None, Result, Ok, Err, refl, sym, ap, subst, ◌∙◌, append_assoc, arith, inl, inr, ◌⊎◌}
 use Rattle.std.specs.Prelude.{fold, IsOk, IsOkUnless}
 use Rattle.std.specs.List.{list_any}
 use Rattle.std.proofs.lemmas.List.Folds.{list_any-append}
-use Rattle.std.proofs.lemmas.List.{append-nil, length-append, map-append}
-use Rattle.std.specs.Io.KnownBytes.{Consumes, Keeps}
+use Rattle.std.proofs.lemmas.List.{append-nil, map-append}
 use Rattle.cb_base.specs.declared.fault.Fault.{Fault}
 use Rattle.cb_base.specs.declared.fault.Fault.TheVariants.{Memory}
 use Rattle.cb_wire.specs.declared.item.Item.{Item}
@@ -12,8 +11,7 @@ use Rattle.cb_wire.specs.declared.envelope.Front.{Front}
 use Rattle.cb_wire.specs.declared.envelope.Front.TheVariants.{Partial, Broken, Whole}
 use Rattle.cb_wire.specs.Envelope.{front_at}
 use Rattle.cb_wire.specs.Stream.{Assembled, Ends, Stream}
-use Rattle.cb_wire.proofs.Streams.{Stream-grows, reading_of}
-use Rattle.cb_base.proofs.Known.{Consumes-nothing, Consumes-then}
+use Rattle.cb_wire.proofs.Streams.{Stream-grows, front_at-nil, reading_of}
 use Rattle.cb_hall.specs.Badge.{BadgeState}
 use Rattle.cb_hall.specs.Histories.{Reply}
 use Rattle.cb_peer_state.specs.declared.settings.Settings.{Settings}
@@ -29,8 +27,9 @@ use Rattle.cb_trace.specs.Fold.{Account, EachOpen, account_of, account_step, fir
 use Rattle.cb_trace.proofs.Entries.{entry_bye}
 use Rattle.cb_base.specs.declared.read_end.ReadEnd.{ReadEnd}
 use Rattle.cb_base.specs.declared.read_end.ReadEnd.TheVariants as ends
-use Rattle.cb_session.specs.Conversation.{Accounts, Gave, GaveItem, Origin, Progress, Settled}
-use Rattle.cb_session.specs.Serving.{EndsSo, Heard, HeardBy, IsInOrder, Pieced, Took, broken, end_mark, has_end, queue, said}
+use Rattle.cb_session.specs.declared.conversation.Conversation.{Conversation}
+use Rattle.cb_session.specs.Conversation.{Accounts, Gave, GaveItem, Origin, Progress, SameReferences, Settled, WritesOn, at}
+use Rattle.cb_session.specs.Serving.{HasHeard, IsInOrder, Pieced, Took, broken, end_mark, has_end, queue, said}
 use Rattle.cb_session.proofs.Accounts.{ok_err, open_kept, sent_lost}
 
 not_true : false ≡ true → ⊥
@@ -253,49 +252,58 @@ pub settled_lost : {H : Type 0} (told : H → BadgeState → List Reply → H �
 settled_lost told refused from now inputs missing unkept a closed =
     record { sent = sent_lost told refused from now inputs missing [] unkept a; answered = λ h. absurd (let clash = sym h ∙ closed in cc) }
 
--- ---- reading
+-- ---- pieces in turn
 
-Consumes-keeps : (a b c : Option (List ℕ)) (x : List ℕ) → Consumes a b x → Keeps b c → Consumes a c x
-Consumes-keeps a b c x h k = subst (λ (y : List ℕ). Consumes a c y) (append-nil x) (Consumes-then a b c x [] h (Consumes-nothing b c k))
-
--- one piece more
-pub heard_more : {H : Type 0} (told : H → BadgeState → List Reply → H → BadgeState → Type 0) (refused : H → BadgeState → Fault → Type 0) (from : Origin H) (input before after : Option (List ℕ)) (now now' : Progress H) (assembled assembled' : Assembled) (turns turns' : ℕ) (piece : List ℕ)
-    → HeardBy told refused from input before now assembled turns → is_closed now.trace.session.state ≡ false → Consumes before after piece → 1 ≤ length piece → turns' ≡ turns + 1
-    → ((bytes : List ℕ) (items : List Item) → Stream bytes items assembled.rest assembled.fault → Settled told refused from now (said items) false → Pieced told refused from now' (bytes ++ piece) assembled')
-    → HeardBy told refused from input after now' assembled' turns'
-heard_more told refused from input before after now now' assembled assembled' turns turns' piece h going c one next step =
-    let p = h.pieced in
-    let up = p.going going in
-    let stream : Stream h.read p.items assembled.rest assembled.fault =
-    subst (λ (r : List ℕ). Stream h.read p.items r assembled.fault) up.rest_is (subst (λ (f : Option Fault). Stream h.read p.items p.rest f) (up.no_fault ∙ sym up.fault_is) p.stream) in
-    let inputs : p.inputs ≡ said p.items =
-    sym (append-nil p.inputs) ∙ ap (λ (is : List Event). p.inputs ++ is) (sym up.none_later) ∙ p.parts ∙ ap (λ (f : Option Fault). said p.items ++ broken f) up.no_fault ∙ append-nil (said p.items) in
-    let enough = h.enough in
+-- nothing was read yet
+pub pieced_none : {H : Type 0} (told : H → BadgeState → List Reply → H → BadgeState → Type 0) (refused : H → BadgeState → Fault → Type 0) (from : Origin H) (now : Progress H) (assembled : Assembled) → assembled ≡ record { rest = []; fault = None } → Settled told refused from now [] false → Pieced told refused from now [] assembled
+pieced_none told refused from now assembled new s =
     record {
-      read = h.read ++ piece;
-      consumed = Consumes-then input before after h.read piece h.consumed c;
-      enough = omega (arith, length-append h.read piece);
-      pieced = step h.read p.items stream (open_kept told refused from now (said p.items) p.unkept going (subst (λ (is : List Event). Settled told refused from now is p.unkept) inputs p.settled));
+      items = [];
+      rest = [];
+      fault = None;
+      stream = subst (λ front. Ends front [] [] None) (sym front_at-nil) (refl, refl);
+      inputs = [];
+      later = [];
+      parts = refl;
+      unkept = false;
+      settled = s;
+      short = λ h. absurd (let clash : false ≡ true = h in cc);
+      going = λ _. record { rest_is = ap (λ (a : Assembled). a.rest) (sym new); fault_is = ap (λ (a : Assembled). a.fault) new; no_fault = refl; none_later = refl };
     }
 
--- reading has ended
-pub heard_end : {H : Type 0} (told : H → BadgeState → List Reply → H → BadgeState → Type 0) (refused : H → BadgeState → Fault → Type 0) (from : Origin H) (input before after : Option (List ℕ)) (failed : Bool) (now : Progress H) (assembled : Assembled) (turns : ℕ) (end : ReadEnd)
-    → HeardBy told refused from input before now assembled turns → Keeps before after → ((read : List ℕ) → turns ≤ length read → EndsSo end after failed read) → Heard told refused from input after failed now end
-heard_end told refused from input before after failed now assembled turns end h k e =
-    record { read = h.read; consumed = Consumes-keeps input before after h.read h.consumed k; assembled = assembled; pieced = h.pieced; cause = e h.read h.enough }
+-- one piece more
+pub pieced_more : {H : Type 0} (told : H → BadgeState → List Reply → H → BadgeState → Type 0) (refused : H → BadgeState → Fault → Type 0) (from : Origin H) (now now' : Progress H) (bytes piece : List ℕ) (assembled assembled' : Assembled) → is_closed now.trace.session.state ≡ false → Pieced told refused from now bytes assembled
+    → ((bytes : List ℕ) (items : List Item) → Stream bytes items assembled.rest assembled.fault → Settled told refused from now (said items) false → Pieced told refused from now' (bytes ++ piece) assembled')
+    → Pieced told refused from now' (bytes ++ piece) assembled'
+pieced_more told refused from now now' bytes piece assembled assembled' going p step =
+    let up = p.going going in
+    let stream : Stream bytes p.items assembled.rest assembled.fault =
+    subst (λ (r : List ℕ). Stream bytes p.items r assembled.fault) up.rest_is (subst (λ (f : Option Fault). Stream bytes p.items p.rest f) (up.no_fault ∙ sym up.fault_is) p.stream) in
+    let inputs : p.inputs ≡ said p.items =
+    sym (append-nil p.inputs) ∙ ap (λ (is : List Event). p.inputs ++ is) (sym up.none_later) ∙ p.parts ∙ ap (λ (f : Option Fault). said p.items ++ broken f) up.no_fault ∙ append-nil (said p.items) in
+    step bytes p.items stream (open_kept told refused from now (said p.items) p.unkept going (subst (λ (is : List Event). Settled told refused from now is p.unkept) inputs p.settled))
 
-keeps_of : (a b : Option (List ℕ)) → Consumes a b [] → Keeps a b
-keeps_of None b c = tt
-keeps_of (Some xs) None c = c
-keeps_of (Some xs) (Some ys) c = sym c
+-- nothing was heard yet
+pub heard_none : {W H : Type 0} (contents : W → Option (List ℕ)) (has_failed : W → Bool) (heeds_failure : W → W → Type 0) (heeds_none : (a : W) → heeds_failure a a) (told : H → BadgeState → List Reply → H → BadgeState → Type 0) (refused : H → BadgeState → Fault → Type 0) (now : Conversation W H) (assembled : Assembled) → assembled ≡ record { rest = []; fault = None }
+    → HasHeard contents has_failed heeds_failure told refused now now [] assembled
+heard_none contents has_failed heeds_failure heeds_none told refused now assembled new =
+    record { ends = (refl, refl, refl, refl); heeds = λ w. (heeds_none _, w); pieced = λ origin s. pieced_none told refused origin (at contents has_failed now) assembled new s }
 
--- a read that gave nothing
-pub Keeps-none : (a b : Option (List ℕ)) (n : ℕ) (buffer : List ℕ) → n ≡ 0 → Consumes a b (take n buffer) → Keeps a b
-Keeps-none a b n buffer z c = keeps_of a b (subst (λ (k : ℕ). Consumes a b (take k buffer)) z c)
-
-pub or_failed : (a b : Bool) → b ≡ (a || true) → b ≡ true
-or_failed true b e = e
-or_failed false b e = e
+-- one piece more was heard
+pub heard_more : {W H : Type 0} (contents : W → Option (List ℕ)) (has_failed : W → Bool) (heeds_failure : W → W → Type 0) (heeds_then : (a b c : W) → heeds_failure a b → heeds_failure b c → heeds_failure a c) (told : H → BadgeState → List Reply → H → BadgeState → Type 0) (refused : H → BadgeState → Fault → Type 0) (from now now' : Conversation W H) (bytes piece : List ℕ) (assembled assembled' : Assembled)
+    → is_closed now.trace.now.session.state ≡ false → HasHeard contents has_failed heeds_failure told refused from now bytes assembled → SameReferences now now'
+    → (WritesOn now.trace.now (has_failed now.writer.now) → heeds_failure now.writer.now now'.writer.now × WritesOn now'.trace.now (has_failed now'.writer.now))
+    → ((origin : Origin H) (bytes : List ℕ) (items : List Item) → Stream bytes items assembled.rest assembled.fault → Settled told refused origin (at contents has_failed now) (said items) false → Pieced told refused origin (at contents has_failed now') (bytes ++ piece) assembled')
+    → HasHeard contents has_failed heeds_failure told refused from now' (bytes ++ piece) assembled'
+heard_more contents has_failed heeds_failure heeds_then told refused from now now' bytes piece assembled assembled' going h ends heeds step = record {
+  ends = (ends.0 ∙ h.ends.0, ends.1 ∙ h.ends.1, ends.2 ∙ h.ends.2, ends.3 ∙ h.ends.3);
+  heeds =
+      λ w.
+      let before = h.heeds w in
+      let after = heeds before.1 in
+      (heeds_then from.writer.now now.writer.now now'.writer.now before.0 after.0, after.1);
+  pieced = λ origin s. pieced_more told refused origin (at contents has_failed now) (at contents has_failed now') bytes piece assembled assembled' going (h.pieced origin s) (step origin);
+}
 
 -- ---- the end
 

@@ -1,4 +1,6 @@
 pub mod Accounts
 pub mod Ending
 pub mod Inputs
+pub mod Pieces
 pub mod Standing
+mod Walks

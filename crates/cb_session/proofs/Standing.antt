@@ -1,24 +1,23 @@
 -- The account between two inputs, while messages may be held back.
-use Rattle.std.proofs.Common.{◌≡◌, ◌≢◌, ℕ, ◌+◌, Bool, true, false, cond, ◌||◌, List, [], ◌∷◌, ◌++◌, length, ◌⊎◌, Option, None, Some, refl, sym, ap, subst, ◌∙◌, arith, inl, inr}
-use Rattle.std.proofs.lemmas.List.{append-nil}
+use Rattle.std.proofs.Common.{◌≡◌, ℕ, Bool, true, false, ◌||◌, List, [], ◌∷◌, ◌++◌, ◌⊎◌, Option, None, Some, refl, sym, ap, subst, ◌∙◌, inl, inr}
 use Rattle.cb_base.specs.declared.fault.Fault.{Fault}
 use Rattle.cb_wire.specs.declared.message.Message.{Message}
 use Rattle.cb_wire.specs.Stream.{texts}
 use Rattle.cb_hall.specs.Badge.{BadgeState}
 use Rattle.cb_hall.specs.Histories.{Reply}
-use Rattle.cb_journal.specs.declared.question.Question.{Question}
+use Rattle.cb_hall.specs.declared.question.Question.{Question}
 use Rattle.cb_peer_state.specs.declared.settings.Settings.{Settings}
 use Rattle.cb_peer_state.specs.declared.event.Event.{Event}
 use Rattle.cb_peer_state.specs.declared.event.Event.TheVariants as events
 use Rattle.cb_peer_state.specs.declared.session_state.SessionState.{SessionState}
-use Rattle.cb_peer_state.specs.Event.{Kind, begins, is_beat, is_hall_full, is_input, is_no_memory, is_told, is_write_fault, kind_of, loses}
+use Rattle.cb_peer_state.specs.Event.{begins, is_beat, is_hall_full, is_input, is_no_memory, is_told, is_write_fault, kind_of, loses}
 use Rattle.cb_peer_state.specs.Questions.{pending_question}
 use Rattle.cb_peer_state.specs.Session.{openings}
 use Rattle.cb_peer_state.specs.State.{is_closed}
 use Rattle.cb_trace.specs.declared.trace.TraceEntry.{TraceEntry}
 use Rattle.cb_trace.specs.Fold.{has_kind, replies_to}
-use Rattle.cb_trace.specs.Trace.{IsAsBefore, IsOpen, Readied, StandsFor, TraceSteps, TraceView, next_step}
-use Rattle.cb_session.specs.Conversation.{Accounts, Gave, IsAnswered, IsLoss, Lacked, Origin, Progress, Sent, Settled, Stands, Underway, beat_in, input_in, origin_of, progress, with_event}
+use Rattle.cb_trace.specs.Trace.{IsAsBefore, IsOpen, Readied, StandsFor, TraceSteps, TraceView}
+use Rattle.cb_session.specs.Conversation.{Accounts, Gave, IsLoss, Origin, Progress, Sent, Settled, Stands, Underway, beat_in, input_in, origin_of, progress, with_event}
 use Rattle.cb_session.proofs.Accounts.{AccountsOf, Adds, Changes, IsOracle, accounts_grow, accounts_lost, accounts_ran, accounts_rest, ended_more, loss_plain, no_answer, none_more, not_both, one_input, open_told, open_whole, ran_closed, ran_out, rest_open, same_beats, same_missing, silent_step, with_beats}
 use Rattle.cb_session.proofs.Ending.{accounts_first, first_free}
 

@@ -4,10 +4,10 @@ use Rattle.cb_base.specs.declared.fault.Fault.{Fault}
 use Rattle.cb_base.specs.declared.fault.Fault.TheVariants.{JournalFull, Memory}
 use Rattle.cb_wire.specs.declared.item.Item.{Item}
 use Rattle.cb_wire.specs.Stream.{texts}
-use Rattle.cb_talk.specs.Writing.{Wrote}
+use Rattle.cb_peer_state.specs.Writing.{Wrote}
 use Rattle.cb_hall.specs.Badge.{BadgeState}
 use Rattle.cb_hall.specs.Histories.{Reply}
-use Rattle.cb_journal.specs.declared.question.Question.{Question}
+use Rattle.cb_hall.specs.declared.question.Question.{Question}
 use Rattle.cb_peer_state.specs.declared.settings.Settings.{Settings}
 use Rattle.cb_peer_state.specs.declared.event.Event.{Event}
 use Rattle.cb_peer_state.specs.declared.event.Event.TheVariants as events

@@ -19,7 +19,8 @@ use Rattle.cb_trace.specs.Fold.{EachOpen, first_account, inputs_of, session_of}
 use Rattle.cb_trace.specs.Prompt.{IsPrompt}
 use Rattle.cb_base.specs.declared.read_end.ReadEnd.{ReadEnd}
 use Rattle.cb_base.specs.declared.read_end.ReadEnd.TheVariants as ends
-use Rattle.cb_session.specs.Conversation.{Origin, Progress, Settled}
+use Rattle.cb_session.specs.Conversation.{Origin, Progress, SameReferences, Settled, WritesOn, at}
+use Rattle.cb_session.specs.declared.conversation.Conversation.{Conversation}
 
 -- ---- what is to be processed
 
@@ -100,15 +101,19 @@ pub record Pieced {H : Type 0} (told : H → BadgeState → List Reply → H →
   pub short : unkept ≡ true → IsShort inputs items rest fault
   pub going : is_closed now.trace.session.state ≡ false → IsCaughtUp rest fault later assembled
 
--- The same for the bytes that a source gave, after a number of reads.
-pub record HeardBy {H : Type 0} (told : H → BadgeState → List Reply → H → BadgeState → Type 0)
-    (refused : H → BadgeState → Fault → Type 0) (from : Origin H)
-    (input remaining : Option (List ℕ)) (now : Progress H) (assembled : Assembled) (turns : ℕ)
-    : Type 0 where
-  pub read : List ℕ
-  pub consumed : Consumes input remaining read
-  pub enough : turns ≤ length read
-  pub pieced : Pieced told refused from now read assembled
+-- A conversation has heard of these bytes since it was `from`, whatever was settled until then.
+-- Once a write has failed, there was no other write.
+pub record HasHeard {W H : Type 0} (contents : W → Option (List ℕ)) (has_failed : W → Bool)
+    (heeds_failure : W → W → Type 0) (told : H → BadgeState → List Reply → H → BadgeState → Type 0)
+    (refused : H → BadgeState → Fault → Type 0) (from now : Conversation W H) (bytes : List ℕ)
+    (assembled : Assembled) : Type 0 where
+  pub ends : SameReferences from now
+  pub heeds : WritesOn from.trace.now (has_failed from.writer.now)
+      → heeds_failure from.writer.now now.writer.now
+      × WritesOn now.trace.now (has_failed now.writer.now)
+  pub pieced : (origin : Origin H)
+      → Settled told refused origin (at contents has_failed from) [] false
+      → Pieced told refused origin (at contents has_failed now) bytes assembled
 
 -- The reason why reading ended is true.
 abbrev pub EndsSo : ReadEnd → Option (List ℕ) → Bool → List ℕ → Type 0
@@ -116,17 +121,6 @@ EndsSo ends.Eof remaining failed read = IsAtEnd remaining
 EndsSo ends.Fault remaining failed read = failed ≡ true
 EndsSo ends.Turns remaining failed read = 2 ^ 40 ≤ length read
 EndsSo ends.Stopped remaining failed read = Unit {0}
-
--- What a connection has heard when reading has ended.
-pub record Heard {H : Type 0} (told : H → BadgeState → List Reply → H → BadgeState → Type 0)
-    (refused : H → BadgeState → Fault → Type 0) (from : Origin H)
-    (input remaining : Option (List ℕ)) (failed : Bool) (now : Progress H) (end : ReadEnd)
-    : Type 0 where
-  pub read : List ℕ
-  pub consumed : Consumes input remaining read
-  pub assembled : Assembled
-  pub pieced : Pieced told refused from now read assembled
-  pub cause : EndsSo end remaining failed read
 
 -- The result of serving a connection: from its source before (`input`) to its source after
 -- (`remaining`).

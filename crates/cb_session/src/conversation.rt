@@ -3,7 +3,7 @@
 ghost use Rattle.std.specs.Prelude.{◌≡◌, ◌≢◌, ◌⊎◌, ◌<◌, ◌≤◌, ◌++◌, true, false, Bool, List, ℕ, [], length, Option, Some, None, IfSome, if◌then◌else◌};
 ghost use Rattle.cb_wire.specs.Stream.{texts};
 ghost use Rattle.cb_wire.specs.declared.item.Item.{Item};
-ghost use Rattle.cb_talk.specs.Writing.{IsOfSink};
+ghost use Rattle.cb_peer_state.specs.Writing.{IsOfSink};
 ghost use Rattle.cb_peer_state.specs.declared.event.Event.{Event};
 ghost use Rattle.cb_peer_state.specs.declared.event.Event.TheVariants as events;
 ghost use Rattle.cb_peer_state.specs.Event.{begins, ends_at_once, is_input, is_no_memory, is_write_fault, kind_of, loses};
@@ -13,10 +13,9 @@ ghost use Rattle.cb_trace.specs.Trace.{IsOpen};
 ghost use Rattle.cb_session.specs.Conversation.{Accounts, AnswerOf, Gave, GaveItem, IsLoss, IsPending, MayAsk, Origin, SameReferences, Sent, Settled, Stands, Underway, WritesOn, at, input_in, left_of, number_after, open_question, progress, with_event};
 
 use cb_base::{Fault, Shared};
-use cb_hall::Badge;
-use cb_journal::Question;
+use cb_hall::{Badge, Question};
 use cb_peer::{Event, State};
-use cb_talk::{MessageSink, Outgoing, WriteFault, write_out};
+use cb_peer_state::{MessageSink, Outgoing, WriteFault, write_out};
 use cb_trace::{Oracle, Trace};
 use cb_wire::Item;
 use std::alloc::Global;

@@ -12,7 +12,7 @@ ghost use Rattle.cb_session.specs.Conversation.{Origin, Stands, WritesOn, input_
 use crate::conversation::Conversation;
 use cb_hall::Badge;
 use cb_peer::Event;
-use cb_talk::{MessageSink, Outgoing};
+use cb_peer_state::{MessageSink, Outgoing};
 use cb_trace::{Oracle, Trace};
 use std::alloc::Global;
 

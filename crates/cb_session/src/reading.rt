@@ -1,94 +1,73 @@
-//! Reads a peer's stream to its end, or to the end of the session.
-ghost use Rattle.std.specs.Prelude.{◌≡◌, ◌≢◌, ◌≤◌, true, false, List, [], ℕ, Option, None, length};
-ghost use Rattle.cb_peer_state.specs.State.{is_closed};
-ghost use Rattle.cb_session.specs.Conversation.{Origin, SameReferences, WritesOn, at};
-ghost use Rattle.cb_session.specs.Serving.{Heard, HeardBy};
+//! Reads a peer's stream to its end, piece by piece.
+ghost use Rattle.std.specs.Prelude.{◌≡◌, ◌≤◌, ◌++◌, ℕ, List, [], length, IfOk, IfErr, OnOk, OnErr};
+ghost use Rattle.std.specs.Io.KnownBytes.{Consumes};
+ghost use Rattle.cb_base.specs.declared.read_end.ReadEnd.{ReadEnd};
+ghost use Rattle.cb_session.specs.Reading.{SourceEndsSo};
 
-use crate::conversation::Conversation;
-use crate::hearing::hear_piece;
+use crate::read_from::ReadFrom;
 use cb_base::{ReadEnd, Source};
-use cb_talk::MessageSink;
-use cb_trace::Oracle;
-use cb_wire::Assembler;
-use std::alloc::Global;
+
+/// The most bytes in one read.
+pub(crate) const READ_SIZE: usize = 65_536;
 
 /// The most reads of one source.
 const TURNS: u64 = 1 << 40;
 
-/// What a peer's stream is read with: its source, the buffer for its bytes, and the assembler,
-/// which keeps the incomplete message at the end.
-#[derive(Drop)]
-pub struct Reading<'a, R> {
-    reader: &'a mut R,
-    buffer: &'a mut [u8],
-    assembler: &'a mut Assembler,
+/// What takes the pieces of a stream.
+pub(crate) trait TakesPieces {
+    /// It can take a piece.
+    ghost is_ready: { Self → Type 0 };
+
+    /// The second is the first after it took these bytes.
+    ghost took: { Self → List ℕ → Self → Type 0 };
+
+    /// The second is the first after it ended reading with these bytes, for this reason.
+    ghost ended: { Self → List ℕ → ReadEnd → Self → Type 0 };
+
+    /// Takes the next piece. The error tells that it takes no more, and why.
+    fn take(&mut self, piece: &[u8]) -> Result<(), ReadEnd>
+        requires ready { is_ready self.old }
+        requires some { 1 ≤ length piece.now }
+        requires limit { length piece.now ≤ 65536 }
+        ensures ready { OnOk result (is_ready self.new) }
+        ensures took { OnOk result ((from : Self) (bytes : List ℕ) → took from bytes self.old →
+            took from (bytes ++ piece.now) self.new) }
+        ensures ended { IfErr result (λ end. (from : Self) (bytes : List ℕ) →
+            took from bytes self.old → ended from (bytes ++ piece.now) end self.new) };
 }
 
-impl<'a, R: Source> Reading<'a, R> {
-    /// A reader over these. One read returns at most as many bytes as the buffer has.
-    pub fn new(
-        reader: &'a mut R,
-        buffer: &'a mut [u8],
-        assembler: &'a mut Assembler,
-    ) -> Reading<'a, R>
-        ensures end { result.reader.ghost_name ≡ reader.entry.ghost_name }
-        ensures reader { result.reader.now ≡ reader.old }
-        ensures buffer { result.buffer.now ≡ buffer.old }
-        ensures assembler { result.assembler.now ≡ assembler.old }
-    {
-        Reading {
-            reader,
-            buffer,
-            assembler,
-        }
-    }
-
-    /// Reads the source to its end and gives the session all items in its bytes, or as many as come
-    /// before the session is over. Makes at most 2^40 reads. Returns why reading ended.
-    pub fn hear<'c, W: MessageSink, H: Oracle>(
-        &mut self,
-        alloc: Global,
-        conversation: &mut Conversation<'c, W, H>,
-    ) -> ReadEnd
-        requires room { 1 ≤ length self.old.buffer.now }
-        ensures end { self.new.reader.ghost_name ≡ self.old.reader.ghost_name }
-        ensures ends { SameReferences conversation.old conversation.new }
-        ensures heeds { WritesOn conversation.old.trace.now
-            (W.has_failed conversation.old.writer.now) →
-            W.heeds_failure conversation.old.writer.now conversation.new.writer.now
-            × WritesOn conversation.new.trace.now (W.has_failed conversation.new.writer.now) }
-        ensures heard { (from : Origin _) (input : Option (List ℕ)) →
-            HeardBy H.told H.refused from input (R.remaining self.old.reader.now)
-            (at W.contents W.has_failed conversation.old) self.old.assembler.now 0 →
-            Heard H.told H.refused from input (R.remaining self.new.reader.now)
-            (R.has_failed self.new.reader.now)
-            (at W.contents W.has_failed conversation.new) result }
-        ensures stopped { result ≡ ReadEnd.Stopped →
-            is_closed conversation.new.trace.now.session.state ≡ true }
-        ensures going { result ≢ ReadEnd.Stopped →
-            is_closed conversation.new.trace.now.session.state ≡ false }
-    {
-        let reader = &mut *self.reader;
-        let buffer = &mut *self.buffer;
-        let assembler = &mut *self.assembler;
-        for _ in 0..TURNS {
-            if conversation.state().is_closed() {
-                return ReadEnd::Stopped;
-            }
-            match reader.read(buffer) {
-                None => return ReadEnd::Fault,
-                Some(given) => {
-                    if given == 0 {
-                        return ReadEnd::Eof;
-                    }
-                    let (piece, _) = buffer.split_at(given);
-                    hear_piece(alloc, assembler, conversation, piece);
-                }
+/// Reads a source to its end and gives each piece to `taker`. Notes the bytes that were read.
+///
+/// The result is why the source was read no further: `Eof` if it ended, `Fault` if a read failed,
+/// and `Turns` after 2^40 reads. The error is why `taker` takes no more.
+pub(crate) fn read_pieces<S: Source, T: TakesPieces>(
+    reader: &mut S,
+    buffer: &mut [u8],
+    bytes: &mut ReadFrom<S>,
+    taker: &mut T,
+) -> Result<ReadEnd, ReadEnd>
+    requires buffer { length buffer.old ≡ 65536 }
+    requires first { bytes.old ≡ [] }
+    requires ready { T.is_ready taker.old }
+    requires start { T.took taker.old [] taker.old }
+    ensures consumed { Consumes (S.remaining reader.old) (S.remaining reader.new) bytes.new }
+    ensures ready { OnOk result (T.is_ready taker.new) }
+    ensures took { OnOk result (T.took taker.old bytes.new taker.new) }
+    ensures source { IfOk result (λ why. SourceEndsSo why (S.remaining reader.new)
+        (S.has_failed reader.old) (S.has_failed reader.new) bytes.new) }
+    ensures ended { IfErr result (λ end. T.ended taker.old bytes.new end taker.new) }
+    ensures unfailed { OnErr result (S.has_failed reader.new ≡ S.has_failed reader.old) }
+{
+    for _ in 0..TURNS {
+        match reader.read(buffer) {
+            None => return Ok(ReadEnd::Fault),
+            Some(0) => return Ok(ReadEnd::Eof),
+            Some(given) => {
+                let (piece, _) = buffer.split_at(given);
+                bytes.add(piece);
+                taker.take(piece)?;
             }
         }
-        if conversation.state().is_closed() {
-            return ReadEnd::Stopped;
-        }
-        ReadEnd::Turns
     }
+    Ok(ReadEnd::Turns)
 }

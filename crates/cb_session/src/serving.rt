@@ -1,22 +1,19 @@
-ghost use Rattle.std.specs.Prelude.{◌≡◌, ◌≢◌, ◌≤◌, true, false, Bool, List, [], ℕ, Option, None, IfOk, IsOkUnless, OnErr, length};
+ghost use Rattle.std.specs.Prelude.{◌≡◌, false, IfOk, IsOkUnless, OnErr};
 ghost use Rattle.cb_base.specs.declared.fault.Fault.TheVariants.{Memory};
 ghost use Rattle.cb_hall.specs.Histories.{Asks, IsRefused};
-ghost use Rattle.cb_peer_state.specs.State.{is_closed};
-ghost use Rattle.cb_session.specs.Conversation.{Origin, SameReferences, Settled, WritesOn, at, origin_of, progress};
-ghost use Rattle.cb_session.specs.Serving.{Heard, Serves};
+ghost use Rattle.cb_session.specs.Conversation.{origin_of, progress};
+ghost use Rattle.cb_session.specs.Serving.{Serves};
 
 use crate::conversation::Conversation;
-use crate::reading::Reading;
+use crate::hearing::Hearing;
+use crate::reading::READ_SIZE;
 use cb_base::{Fault, ReadEnd, Source};
 use cb_hall::{Badge, Hall};
-use cb_peer::{Event, Settings};
-use cb_talk::MessageSink;
+use cb_peer::Settings;
+use cb_peer_state::MessageSink;
 use cb_trace::{Oracle, Trace};
 use cb_wire::Assembler;
 use std::alloc::Global;
-
-/// The most bytes in one read.
-const READ_SIZE: usize = 65_536;
 
 /// The result of serving a connection.
 #[derive(Drop)]
@@ -87,66 +84,19 @@ pub fn serve_by<R: Source, W: MessageSink, H: Oracle>(
 {
     let mut buffer = vec![in alloc; 0u8; READ_SIZE]?;
     let (mut trace, messages) = Trace::with_seed(alloc, settings, hall.seed())?;
-    let mut assembler = Assembler::new(alloc);
-    let mut reading = Reading::new(reader, buffer.as_mut_slice(), &mut assembler);
     let mut conversation = Conversation::new(&mut trace, writer, hall, badge, 0);
     conversation.send(alloc, messages);
-    let read = hear_all(alloc, &mut reading, &mut conversation);
-    let written = conversation.written();
+    let mut assembler = Assembler::new(alloc);
+    let mut hearing = Hearing {
+        alloc,
+        assembler: &mut assembler,
+        conversation,
+    };
+    let read = hearing.hear_all(reader, buffer.as_mut_slice());
+    let written = hearing.conversation.written();
     Ok(Served {
         trace,
         read,
         written,
     })
-}
-
-/// Reads the peer's stream to its end, or to the end of the session, and then gives the session the
-/// stream's end. Returns why reading ended.
-fn hear_all<'r, 'c, R: Source, W: MessageSink, H: Oracle>(
-    alloc: Global,
-    reading: &mut Reading<'r, R>,
-    conversation: &mut Conversation<'c, W, H>,
-) -> ReadEnd
-    requires new { reading.old.assembler.now ≡ record { rest = []; fault = None } }
-    requires room { 1 ≤ length reading.old.buffer.now }
-    ensures end { reading.new.reader.ghost_name ≡ reading.old.reader.ghost_name }
-    ensures ends { SameReferences conversation.old conversation.new }
-    ensures heeds { WritesOn conversation.old.trace.now (W.has_failed conversation.old.writer.now) →
-        W.heeds_failure conversation.old.writer.now conversation.new.writer.now
-        × WritesOn conversation.new.trace.now (W.has_failed conversation.new.writer.now) }
-    ensures serves { (from : Origin _) →
-        Settled H.told H.refused from (at W.contents W.has_failed conversation.old) [] false →
-        Serves H.told H.refused from (R.remaining reading.old.reader.now)
-        (R.remaining reading.new.reader.now) (R.has_failed reading.new.reader.now)
-        (at W.contents W.has_failed conversation.new) result }
-{
-    let read = reading.hear(alloc, conversation);
-    finish(alloc, read, conversation);
-    read
-}
-
-/// Gives the session the end of the peer's stream, unless the session is already over.
-fn finish<'a, W: MessageSink, H: Oracle>(
-    alloc: Global,
-    read: ReadEnd,
-    conversation: &mut Conversation<'a, W, H>,
-)
-    requires stopped { read ≡ ReadEnd.Stopped →
-        is_closed conversation.old.trace.now.session.state ≡ true }
-    requires going { read ≢ ReadEnd.Stopped →
-        is_closed conversation.old.trace.now.session.state ≡ false }
-    ensures ends { SameReferences conversation.old conversation.new }
-    ensures heeds { WritesOn conversation.old.trace.now (W.has_failed conversation.old.writer.now) →
-        W.heeds_failure conversation.old.writer.now conversation.new.writer.now
-        × WritesOn conversation.new.trace.now (W.has_failed conversation.new.writer.now) }
-    ensures serves { (from : Origin _) (input remaining : Option (List ℕ)) (read_failed : Bool) →
-        Heard H.told H.refused from input remaining read_failed
-        (at W.contents W.has_failed conversation.old) read →
-        Serves H.told H.refused from input remaining read_failed
-        (at W.contents W.has_failed conversation.new) read }
-{
-    if read.is_stopped() {
-        return;
-    }
-    conversation.give(alloc, Event::ReaderEnd);
 }

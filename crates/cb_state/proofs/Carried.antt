@@ -12,7 +12,7 @@ use Rattle.cb_chain.specs.Entries.{Entry, Tree, block_hash, block_of, genesis_ha
 use Rattle.cb_chain.specs.History.{IsHistoric}
 use Rattle.cb_chain.specs.Locator.{depth_of, heights_from, locator_heights, locator_of}
 use Rattle.cb_pool.specs.Listing.{since_of}
-use Rattle.cb_pool.specs.Rules.{txid_of}
+use Rattle.cb_block.specs.Txid.{txid_of}
 use Rattle.cb_pool.specs.declared.members.Pooled.{Pooled}
 use Rattle.cb_state.proofs.FirstBlock.{first_meets_rules}
 use Rattle.cb_state.proofs.TipHeight.{tip_low}

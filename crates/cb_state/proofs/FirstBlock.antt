@@ -8,13 +8,13 @@ use Rattle.std.proofs.lemmas.Option.{slice_get_within}
 use Rattle.cb_base.specs.CompactSize.{compact_text}
 use Rattle.cb_base.specs.declared.fault.TxRule.TheVariants.{NoInputs, NoOutputs, TooLong, BadValue, BadSum, RepeatedInput, BadCoinbaseScript, NullInput}
 use Rattle.cb_base.proofs.Hashes.{length-double_hash}
-use Rattle.cb_tx.specs.declared.tx.TxIn.{TxIn}
-use Rattle.cb_tx.specs.declared.tx.TxOut.{TxOut}
-use Rattle.cb_tx.specs.Rules.{HasBadScript, IsOutsideMoney, MeetsRules}
-use Rattle.cb_tx.specs.Text.{tx_text, list_text, input_text, output_text, script_text}
+use Rattle.cb_block.specs.declared.tx.TxIn.{TxIn}
+use Rattle.cb_block.specs.declared.tx.TxOut.{TxOut}
+use Rattle.cb_block.specs.TxRules.{HasBadScript, IsOutsideMoney, MeetsRules}
+use Rattle.cb_block.specs.TxText.{tx_text, list_text, input_text, output_text, script_text}
 use Rattle.cb_block.specs.Blocks.{MeetsBlockRules}
 use Rattle.cb_block.specs.Genesis.{genesis_block, genesis_header, genesis_tx, headline, to_a_key}
-use Rattle.cb_block.specs.Text.{block_text, header_text}
+use Rattle.cb_block.specs.BlockText.{block_text, header_text}
 use Rattle.cb_state.proofs.MinedLaws.{money}
 
 -- ---- its bytes

@@ -9,9 +9,9 @@ use Rattle.std.proofs.lemmas.List.Concat.{flat_map-cons}
 use Rattle.std.proofs.lemmas.Grind.{flat_map-append}
 use Rattle.std.proofs.lemmas.Option.{slice_get_within}
 use Rattle.cb_base.specs.CompactSize.{compact_text}
-use Rattle.cb_tx.specs.declared.tx.Tx.{Tx}
-use Rattle.cb_tx.specs.Rules.{MeetsRules}
-use Rattle.cb_tx.specs.Text.{input_text, list_text, output_text, script_text, tx_text}
+use Rattle.cb_block.specs.declared.tx.Tx.{Tx}
+use Rattle.cb_block.specs.TxRules.{MeetsRules}
+use Rattle.cb_block.specs.TxText.{input_text, list_text, output_text, script_text, tx_text}
 use Rattle.cb_base.specs.declared.fault.TxRule.TheVariants.{TooLong}
 use Rattle.cb_pool.specs.Rules.{StandsAlone}
 use Rattle.cb_state.specs.Mining.{FitInBlock, IsMostFitting, coinbase_of}

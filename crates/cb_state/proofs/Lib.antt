@@ -5,8 +5,10 @@ pub mod Fits
 pub mod Growing
 pub mod Mined
 pub mod MinedLaws
+mod OnBest
 pub mod OnceEach
 pub mod OneAnswer
+mod Pages
 pub mod Parted
 pub mod PutOff
 pub mod Takings

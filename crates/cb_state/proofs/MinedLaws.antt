@@ -8,16 +8,16 @@ use Rattle.std.proofs.lemmas.List.Elements.{All-cons, All-take}
 use Rattle.std.proofs.lemmas.Option.{slice_get_within}
 use Rattle.cb_base.specs.declared.fault.TxRule.TheVariants.{NoInputs, NoOutputs, TooLong, BadValue, BadSum, RepeatedInput, BadCoinbaseScript, NullInput}
 use Rattle.cb_base.specs.declared.hash.Hash256.{Hash256}
-use Rattle.cb_tx.specs.declared.tx.Tx.{Tx}
-use Rattle.cb_tx.specs.declared.tx.TxIn.{TxIn}
-use Rattle.cb_tx.specs.declared.tx.TxOut.{TxOut}
-use Rattle.cb_tx.specs.Rules.{HasBadScript, IsCoinbase, IsOutsideMoney, MeetsRules}
-use Rattle.cb_tx.specs.Text.{list_text, tx_text}
+use Rattle.cb_block.specs.declared.tx.Tx.{Tx}
+use Rattle.cb_block.specs.declared.tx.TxIn.{TxIn}
+use Rattle.cb_block.specs.declared.tx.TxOut.{TxOut}
+use Rattle.cb_block.specs.TxRules.{HasBadScript, IsCoinbase, IsOutsideMoney, MeetsRules}
+use Rattle.cb_block.specs.TxText.{list_text, tx_text}
 use Rattle.cb_block.specs.declared.block.Block.{Block}
 use Rattle.cb_block.specs.declared.header.Header.{Header}
 use Rattle.cb_block.specs.Blocks.{HasOneCoinbase, MeetsBlockRules, texts}
 use Rattle.cb_block.specs.Soundness.{names}
-use Rattle.cb_block.specs.Text.{block_text, header_text}
+use Rattle.cb_block.specs.BlockText.{block_text, header_text}
 use Rattle.cb_block.specs.Work.{HasWork}
 use Rattle.cb_block.proofs.Levels.{one_root}
 use Rattle.cb_chain.specs.Entries.{Tree}

@@ -8,8 +8,8 @@ use Rattle.std.proofs.lemmas.List.Elements.{filter-append}
 use Rattle.cb_base.specs.declared.hash.Hash256.{Hash256}
 use Rattle.cb_chain.specs.Entries.{same}
 use Rattle.cb_chain.proofs.BlockIndexes.{same-true}
-use Rattle.cb_payload.specs.declared.inventory.Inventory.{Inventory}
-use Rattle.cb_payload.specs.declared.inventory.Inventory.TheVariants.{Tx, Block, CompactBlock, Other}
+use Rattle.cb_wire.specs.declared.inventory.Inventory.{Inventory}
+use Rattle.cb_wire.specs.declared.inventory.Inventory.TheVariants.{Tx, Block, CompactBlock, Other}
 use Rattle.cb_state.specs.State.{RelayState}
 use Rattle.cb_state.specs.Wanting.{is_listed, is_wanted, once, same_entry, wanted_of, with_entry, with_wanted}
 

@@ -9,8 +9,8 @@ use Rattle.cb_base.specs.declared.fault.TxRule.{TxRule}
 use Rattle.cb_base.specs.declared.fault.TxRule.TheVariants.{NoInputs, NoOutputs, TooLong, BadValue, BadSum, RepeatedInput, BadCoinbaseScript, NullInput}
 use Rattle.cb_block.specs.declared.block.Block.{Block}
 use Rattle.cb_block.specs.declared.header.Header.{Header}
-use Rattle.cb_tx.specs.declared.tx.Tx.{Tx}
-use Rattle.cb_tx.specs.Rules.{IsLeastBroken}
+use Rattle.cb_block.specs.declared.tx.Tx.{Tx}
+use Rattle.cb_block.specs.TxRules.{IsLeastBroken}
 use Rattle.cb_ledger.specs.Spend.{spend}
 use Rattle.cb_ledger.specs.Unspent.{Unspent}
 use Rattle.cb_chain.specs.declared.change.Change.{Change}
@@ -19,7 +19,8 @@ use Rattle.cb_chain.specs.Locator.{locator_of}
 use Rattle.cb_chain.proofs.Once.{one_block, one_heading}
 use Rattle.cb_pool.specs.Folding.{Refolds}
 use Rattle.cb_pool.specs.Listing.{txs_of}
-use Rattle.cb_pool.specs.Rules.{Applies, Refuses, RefusesAlone, StandsAlone, is_named_in, txid_of}
+use Rattle.cb_pool.specs.Rules.{Applies, Refuses, RefusesAlone, StandsAlone, is_named_in}
+use Rattle.cb_block.specs.Txid.{txid_of}
 use Rattle.cb_pool.proofs.LawLemmas.{one_refold}
 use Rattle.cb_state.specs.declared.connection.Connection.{Connection}
 use Rattle.cb_state.specs.declared.accepting.Heads.{Heads}

@@ -8,11 +8,11 @@ use Rattle.std.proofs.lemmas.List.{drop-drop, length-append}
 use Rattle.std.proofs.lemmas.List.Elements.{recursion_from_All}
 use Rattle.cb_base.specs.declared.hash.Hash256.{Hash256}
 use Rattle.cb_base.specs.CompactSize.{compact_text}
-use Rattle.cb_payload.proofs.Counting.{compact_most}
-use Rattle.cb_tx.specs.declared.tx.Tx.{Tx}
-use Rattle.cb_tx.specs.Text.{list_text, tx_text}
+use Rattle.cb_wire.proofs.Counting.{compact_most}
+use Rattle.cb_block.specs.declared.tx.Tx.{Tx}
+use Rattle.cb_block.specs.TxText.{list_text, tx_text}
 use Rattle.cb_block.specs.declared.block.Block.{Block}
-use Rattle.cb_block.specs.Text.{block_text, header_text}
+use Rattle.cb_block.specs.BlockText.{block_text, header_text}
 use Rattle.cb_compact.specs.Differences.{sums}
 use Rattle.cb_state.specs.declared.serving_places.Excerpt.TheVariants.{Part, Whole}
 use Rattle.cb_state.specs.Parts.{IsCarried, txs_at}

@@ -8,7 +8,7 @@ use Rattle.cb_base.specs.declared.fault.Fault.TheVariants.{BadWork, Known, Memor
 use Rattle.cb_base.specs.declared.hash.Hash256.{Hash256}
 use Rattle.cb_block.specs.declared.block.Block.{Block}
 use Rattle.cb_block.specs.declared.header.Header.{Header}
-use Rattle.cb_tx.specs.declared.tx.Tx.{Tx}
+use Rattle.cb_block.specs.declared.tx.Tx.{Tx}
 use Rattle.cb_ledger.specs.Spend.{spend}
 use Rattle.cb_ledger.specs.Unspent.{Unspent}
 use Rattle.cb_chain.specs.declared.change.Change.{Change}

@@ -1,9 +1,12 @@
-pub mod Announcers
 pub mod Accepting
+pub mod Announcers
+pub mod Blocks
+pub mod Headers
 pub mod Judging
 pub mod Mining
 pub mod News
 pub mod Outlooks
+pub mod Outputs
 pub mod Parts
 pub mod Seeding
 pub mod Serving

@@ -1,7 +1,7 @@
 -- What is known of the mempool before a block is taken that may become the tip.
 use Rattle.std.specs.Prelude.{◌≡◌, List, [], Ok, IsOk}
 use Rattle.cb_block.specs.declared.block.Block.{Block}
-use Rattle.cb_tx.specs.declared.tx.Tx.{Tx}
+use Rattle.cb_block.specs.declared.tx.Tx.{Tx}
 use Rattle.cb_ledger.specs.Spend.{spend}
 use Rattle.cb_ledger.specs.Unspent.{Unspent}
 use Rattle.cb_chain.specs.Best.{best}

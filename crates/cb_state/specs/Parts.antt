@@ -1,8 +1,8 @@
 -- Some transactions of a block, by their places in it (BIP 152, `getblocktxn` and `blocktxn`).
 use Rattle.std.specs.Prelude.{◌+◌, ◌≤◌, ℕ, List, length, filter_map, slice_get}
 use Rattle.cb_base.specs.declared.hash.Hash256.{Hash256}
-use Rattle.cb_tx.specs.declared.tx.Tx.{Tx}
-use Rattle.cb_tx.specs.Text.{list_text, tx_text}
+use Rattle.cb_block.specs.declared.tx.Tx.{Tx}
+use Rattle.cb_block.specs.TxText.{list_text, tx_text}
 
 -- The block's hash, and some of its transactions.
 pub record BlockPart : Type 0 where

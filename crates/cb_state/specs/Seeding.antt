@@ -1,7 +1,7 @@
 -- The keys of tables of an inventory's entries: their hashes.
 use Rattle.std.specs.Prelude.{ℕ, List, flat_map}
-use Rattle.cb_payload.specs.declared.inventory.Inventory.{Inventory}
-use Rattle.cb_payload.specs.Lists.{hash_in}
+use Rattle.cb_wire.specs.declared.inventory.Inventory.{Inventory}
+use Rattle.cb_wire.specs.Lists.{hash_in}
 
 -- the hashes one after the other
 abbrev pub hashes_text : List Inventory → List ℕ

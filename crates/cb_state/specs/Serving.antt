@@ -5,7 +5,7 @@ use Rattle.std.specs.List.{list_all}
 use Rattle.cb_base.specs.declared.fault.Fault.TheVariants.{BadIndex}
 use Rattle.cb_base.specs.declared.hash.Hash256.{Hash256}
 use Rattle.cb_block.specs.declared.block.Block as blocks
-use Rattle.cb_tx.specs.declared.tx.Tx as txs
+use Rattle.cb_block.specs.declared.tx.Tx as txs
 use Rattle.cb_chain.specs.Best.{best}
 use Rattle.cb_chain.specs.Entries.{Tree, block_of}
 use Rattle.cb_chain.specs.Laws.{height_in}
@@ -14,8 +14,8 @@ use Rattle.cb_pool.specs.Listing.{txs_of}
 use Rattle.cb_pool.specs.Rules.{named_in}
 use Rattle.cb_state.specs.declared.serving_places.Excerpt.{Excerpt}
 use Rattle.cb_state.specs.declared.serving_places.Excerpt.TheVariants as excerpt
-use Rattle.cb_payload.specs.declared.inventory.Inventory.{Inventory}
-use Rattle.cb_payload.specs.declared.inventory.Inventory.TheVariants as entry
+use Rattle.cb_wire.specs.declared.inventory.Inventory.{Inventory}
+use Rattle.cb_wire.specs.declared.inventory.Inventory.TheVariants as entry
 use Rattle.cb_state.specs.declared.serving.Piece.{Piece}
 use Rattle.cb_state.specs.declared.serving.Piece.TheVariants as piece
 use Rattle.cb_state.specs.Parts.{txs_at}

@@ -8,8 +8,8 @@ use Rattle.cb_chain.specs.Entries.{Entry, entry_of, is_lacking, same}
 use Rattle.cb_chain.specs.Locator.{locator_of}
 use Rattle.cb_pool.specs.Listing.{txs_of}
 use Rattle.cb_pool.specs.Rules.{is_named_in}
-use Rattle.cb_payload.specs.declared.inventory.Inventory.{Inventory}
-use Rattle.cb_payload.specs.declared.inventory.Inventory.TheVariants.{Tx, Block, CompactBlock, Other}
+use Rattle.cb_wire.specs.declared.inventory.Inventory.{Inventory}
+use Rattle.cb_wire.specs.declared.inventory.Inventory.TheVariants.{Tx, Block, CompactBlock, Other}
 use Rattle.cb_state.specs.declared.wanting.Need.{Need}
 use Rattle.cb_state.specs.State.{RelayState}
 

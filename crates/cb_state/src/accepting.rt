@@ -18,12 +18,11 @@ use crate::judging::fault_of_block;
 use crate::locator::locator_of;
 use crate::state::Relay;
 use cb_base::{Fault, Hash256, Shared};
-use cb_block::{Header, SoundBlock};
+use cb_block::{Header, OutPoint, SoundBlock, Tx};
 use cb_chain::{Chain, Hashes, kept_meet_rules};
 use cb_ledger::Ledger;
-use cb_payload::Locator;
 use cb_pool::{Candidate, Pool, Refolding, Thinning, stays_as_it_is, stays_behind_others};
-use cb_tx::{OutPoint, Tx};
+use cb_wire::Locator;
 use std::alloc::Global;
 
 /// The outcome of a block.

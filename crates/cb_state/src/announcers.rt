@@ -13,7 +13,6 @@ pub(crate) const MOST_ANNOUNCERS: usize = 3;
 /// The announcers: the connections that are asked to announce new blocks as compact blocks
 /// (BIP 152, high-bandwidth mode). The one that gave the most recent new tip is last. There are at
 /// most three, with room for a fourth. Its model is the list.
-#[derive(Drop)]
 pub(crate) struct Announcers {
     list: Vec<Connection>,
 }
@@ -28,6 +27,12 @@ impl Model for Announcers {
 
     ghost invariant = { λ announcers. (length announcers.list.items ≤ 3)
         × (4 ≤ vec_capacity announcers.list) };
+}
+
+impl Drop for Announcers {
+    fn drop(self) {
+        let Announcers { list: _ } = self;
+    }
 }
 
 impl Announcers {

@@ -1,7 +1,7 @@
 ghost use Rattle.std.specs.Prelude.{◌≡◌, ◌≤◌, length, IfOk, IsOkUnless};
 ghost use Rattle.cb_base.specs.declared.fault.Fault.TheVariants.{Memory};
 ghost use Rattle.cb_block.specs.Blocks.{MeetsBlockRules};
-ghost use Rattle.cb_block.specs.Text.{block_text};
+ghost use Rattle.cb_block.specs.BlockText.{block_text};
 ghost use Rattle.cb_chain.specs.Entries.{block_of};
 
 use cb_base::{Fault, Hash256};

@@ -3,7 +3,7 @@ ghost use Rattle.cb_base.specs.Seeding.{fixed_seed, seed_of_keys};
 ghost use Rattle.cb_state.specs.Seeding.{hashes_text};
 
 use cb_base::{Keys, Seed};
-use cb_payload::Inventory;
+use cb_wire::Inventory;
 use std::hash::{BuildHasher, Hasher};
 
 /// Up to this number of entries, tables of them have the fixed seed if there is no other. Even if

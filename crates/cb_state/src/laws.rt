@@ -5,7 +5,7 @@ ghost use Rattle.cb_block.specs.Blocks.{MeetsBlockRules};
 ghost use Rattle.cb_block.specs.Genesis.{genesis_block};
 ghost use Rattle.cb_block.specs.declared.block.Block.{Block};
 ghost use Rattle.cb_block.specs.declared.header.Header.{Header};
-ghost use Rattle.cb_tx.specs.declared.tx.Tx.{Tx};
+ghost use Rattle.cb_block.specs.declared.tx.Tx.{Tx};
 ghost use Rattle.cb_state.specs.declared.connection.Connection.{Connection};
 ghost use Rattle.cb_state.specs.declared.accepting.Heads.{Heads};
 ghost use Rattle.cb_state.specs.declared.accepting.Taken.{Taken};

@@ -5,7 +5,7 @@ ghost use Rattle.cb_chain.specs.Locator.{locator_of};
 use crate::state::Relay;
 use cb_base::Fault;
 use cb_chain::{Chain, has_history};
-use cb_payload::Locator;
+use cb_wire::Locator;
 
 /// The chain's block locator. It fits in a message. Fails only with `Fault::Memory`.
 pub(crate) fn locator_of(chain: &Chain) -> Result<Locator, Fault>

@@ -2,13 +2,12 @@ ghost use Rattle.std.specs.Prelude.{◌≡◌, IfOk, IsOkUnless};
 ghost use Rattle.cb_base.specs.declared.fault.Fault.TheVariants.{Memory};
 ghost use Rattle.cb_compact.specs.ShortIds.{key_of};
 ghost use Rattle.cb_pool.specs.Listing.{txs_of};
-ghost use Rattle.cb_pool.specs.Matching.{pairs_of};
+ghost use Rattle.cb_compact.specs.Matching.{pairs_of};
 
 use crate::state::Relay;
 use cb_base::{Fault, Shared};
 use cb_block::Header;
-use cb_compact::key;
-use cb_pool::{Pairs, ShortIds};
+use cb_compact::{Pairs, ShortIds, key};
 
 impl Relay {
     /// Returns the mempool's transactions, as they are now, whose short ids are among `ids`

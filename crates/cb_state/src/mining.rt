@@ -1,6 +1,6 @@
 ghost use Rattle.std.specs.Prelude.{◌≡◌, ◌≢◌, ℕ, ◌+◌, ◌<◌, ◌≤◌, ◌⊎◌, ◌∷◌, length, slice_get, take, vec_len, All, IfErr, IfOk, IsOkUnless, Some};
 ghost use Rattle.cb_base.specs.declared.fault.Fault.TheVariants.{BadWork, Memory, Mutated};
-ghost use Rattle.cb_tx.specs.Text.{tx_text};
+ghost use Rattle.cb_block.specs.TxText.{tx_text};
 ghost use Rattle.cb_block.specs.Blocks.{MeetsBlockRules, texts};
 ghost use Rattle.cb_block.specs.MerkleTree.{IsMutated, IsRoot};
 ghost use Rattle.cb_block.specs.Soundness.{names};
@@ -11,10 +11,12 @@ ghost use Rattle.cb_state.specs.Mining.{CannotMine, HasLeastNonce, HasNoNonce, I
 
 use crate::state::Relay;
 use cb_base::{Fault, Hash256, Shared};
-use cb_block::{BITS, Block, Header, SoundBlock, Txs, check_header, root, sound_by};
+use cb_block::{
+    BITS, Block, Header, Inputs, OutPoint, Outputs, Script, SoundBlock, Tx, TxIn, TxOut, Txs,
+    check_header, compact_size, root, sound_by,
+};
 use cb_chain::{Chain, has_history};
 use cb_pool::{Candidate, Pool, each_stands_alone};
-use cb_tx::{Inputs, OutPoint, Outputs, Script, Tx, TxIn, TxOut, compact_size};
 use std::alloc::Global;
 
 /// The most bytes of a block.

@@ -10,7 +10,7 @@ use crate::connection::Connection;
 use crate::state::Relay;
 use cb_base::{Fault, Hash256};
 use cb_block::Header;
-use cb_payload::{Listed, MOST_ENTRIES};
+use cb_wire::{Listed, MOST_ENTRIES};
 use std::alloc::Global;
 
 /// The most headers that are announced at once.

@@ -3,14 +3,14 @@ ghost use Rattle.cb_base.specs.declared.fault.Fault.TheVariants.{Memory};
 ghost use Rattle.cb_chain.specs.Entries.{block_of};
 ghost use Rattle.cb_pool.specs.Listing.{txs_of};
 ghost use Rattle.cb_pool.specs.Rules.{named_in};
-ghost use Rattle.cb_payload.specs.declared.inventory.Inventory.TheVariants as entry;
+ghost use Rattle.cb_wire.specs.declared.inventory.Inventory.TheVariants as entry;
 ghost use Rattle.cb_state.specs.Serving.{is_within, piece_of, pieces_of, short_piece, tx_piece, whole_piece};
 
 use crate::bounded::{BoundedBlock, kept_block};
 use crate::state::Relay;
 use cb_base::{Fault, Hash256};
-use cb_payload::{Entries, Inventory, Listed, MOST_ENTRIES};
 use cb_pool::Candidate;
+use cb_wire::{Entries, Inventory, Listed, MOST_ENTRIES};
 
 /// The greatest depth below the tip at which a block is served as a compact block (this node's own
 /// choice).

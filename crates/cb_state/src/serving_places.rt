@@ -1,7 +1,7 @@
 ghost use Rattle.std.specs.Prelude.{◌≡◌, ◌≤◌, false, length, slice_get, IfOk, IsOk, IsOkUnless};
 ghost use Rattle.cb_base.specs.declared.fault.Fault.TheVariants.{BadIndex, Memory};
 ghost use Rattle.cb_block.specs.Blocks.{MeetsBlockRules};
-ghost use Rattle.cb_block.specs.Text.{header_text};
+ghost use Rattle.cb_block.specs.BlockText.{header_text};
 ghost use Rattle.cb_compact.specs.Differences.{sums};
 ghost use Rattle.cb_state.specs.Parts.{BlockPart, IsCarried, txs_at};
 ghost use Rattle.cb_state.specs.Serving.{are_below, excerpt_at, excerpt_of};
@@ -10,10 +10,9 @@ ghost use Rattle.cb_state.specs.declared.serving_places.Excerpt.TheVariants as e
 use crate::bounded::BoundedBlock;
 use crate::state::Relay;
 use cb_base::{Fault, Hash256, Shared};
-use cb_block::{Header, SoundBlock, Txs};
+use cb_block::{Header, SoundBlock, Tx, Txs};
 use cb_chain::kept_meet_rules;
 use cb_compact::undiffer;
-use cb_tx::Tx;
 use std::alloc::Global;
 use std::marker::Model;
 

@@ -13,7 +13,6 @@ use std::marker::Model;
 
 /// The chain, the mempool (pool) over the UTXO set of its tip, and the announcers: the connections
 /// that are asked to announce new blocks as compact blocks. Its model is these three.
-#[derive(Drop)]
 pub struct Relay {
     pub(crate) alloc: Global,
     pub(crate) chain: Chain,
@@ -32,16 +31,18 @@ impl Model for Relay {
     ghost invariant = { λ state. WaitOn state.chain state.pool };
 }
 
-impl Relay {
-    /// A state with the genesis block alone, an empty mempool and no announcers. Its tables have
-    /// the fixed seed. Fails only with `Fault::Memory`.
-    pub fn new(alloc: Global) -> Result<Relay, Fault>
-        ensures opening { IfOk result (λ state. state ≡ opening) }
-        ensures memory { IsOkUnless result Memory }
-    {
-        Relay::with_seed(alloc, Seed::fixed())
+impl Drop for Relay {
+    fn drop(self) {
+        let Relay {
+            alloc: _,
+            chain: _,
+            pool: _,
+            announcers: _,
+        } = self;
     }
+}
 
+impl Relay {
     /// A state with the genesis block alone, an empty mempool and no announcers. Its tables have
     /// this seed, which changes no result. Fails only with `Fault::Memory`.
     pub fn with_seed(alloc: Global, seed: Seed) -> Result<Relay, Fault>

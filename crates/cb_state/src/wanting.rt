@@ -4,14 +4,14 @@ ghost use Rattle.std.specs.List.{list_any};
 ghost use Rattle.cb_base.specs.declared.fault.Fault.TheVariants.{Memory};
 ghost use Rattle.cb_chain.specs.Entries.{entry_of, same};
 ghost use Rattle.cb_chain.specs.Locator.{locator_of};
-ghost use Rattle.cb_payload.specs.declared.inventory.Inventory.TheVariants as entry;
+ghost use Rattle.cb_wire.specs.declared.inventory.Inventory.TheVariants as entry;
 ghost use Rattle.cb_state.specs.Wanting.{AreNoted, IsNeed, blocks_of, is_block, is_near, is_wanted, only_block, stands_on_tip, wanted_of, with_entry, with_wanted};
 
 use crate::entry_seed::seed_of_entries;
 use crate::locator::locator_of;
 use crate::state::Relay;
 use cb_base::{Fault, Hash256, Seed};
-use cb_payload::{Entries, Inventory, Locator};
+use cb_wire::{Entries, Inventory, Locator};
 use std::alloc::Global;
 use std::collections::HashSet;
 

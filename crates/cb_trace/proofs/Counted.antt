@@ -3,13 +3,13 @@ use Rattle.std.proofs.Common.{◌≡◌, ◌≢◌, ℕ, ℤ, ◌+◌, ◌<◌, 
 use Rattle.std.specs.Prelude.{◌%◌, int_lt, pos}
 use Rattle.std.proofs.lemmas.Bool.{cases_Bool}
 use Rattle.std.proofs.lemmas.List.Elements.{filter_map-append}
-use Rattle.cb_journal.specs.declared.answer.Answer.{Answer}
-use Rattle.cb_talk.specs.Greeting.{wishes}
-use Rattle.cb_talk.specs.Serving.{nonce_in, nonces_from, nonces_in}
+use Rattle.cb_hall.specs.declared.answer.Answer.{Answer}
+use Rattle.cb_peer_state.specs.Greeting.{wishes}
+use Rattle.cb_peer_state.specs.Serving.{nonce_in, nonces_from, nonces_in}
 use Rattle.cb_wire.specs.declared.item.Item.{Item}
 use Rattle.cb_wire.specs.declared.message.Message.{Message}
 use Rattle.cb_wire.specs.declared.message.Message.TheVariants as messages
-use Rattle.cb_payload.specs.declared.requests.CompactRelay.{CompactRelay}
+use Rattle.cb_wire.specs.declared.requests.CompactRelay.{CompactRelay}
 use Rattle.cb_peer_state.specs.declared.stage.Stage.{Stage}
 use Rattle.cb_peer_state.specs.declared.event.Event.{Event}
 use Rattle.cb_peer_state.specs.declared.event.Event.TheVariants as events

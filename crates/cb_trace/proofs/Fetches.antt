@@ -8,9 +8,9 @@ use Rattle.cb_base.specs.declared.hash.Hash256.{Hash256}
 use Rattle.cb_chain.specs.Entries.{block_hash, same}
 use Rattle.cb_chain.proofs.BlockIndexes.{same-true}
 use Rattle.cb_compact.specs.Slots.{Unfilled}
-use Rattle.cb_fetch.specs.Fetching.{FetchState, fallen_back, has, idle, is_fetched, landed, taking_on, wanting, wanting_all, with_flight, with_wanted, keeps_place, without}
-use Rattle.cb_payload.specs.declared.inventory.Inventory.{Inventory}
-use Rattle.cb_payload.specs.declared.inventory.Inventory.TheVariants as entry
+use Rattle.cb_peer_state.specs.Fetching.{FetchState, fallen_back, has, idle, is_fetched, landed, taking_on, wanting, wanting_all, with_flight, with_wanted, keeps_place, without}
+use Rattle.cb_wire.specs.declared.inventory.Inventory.{Inventory}
+use Rattle.cb_wire.specs.declared.inventory.Inventory.TheVariants as entry
 use Rattle.cb_peer_state.specs.Receiving.{given_up, gives_up}
 use Rattle.cb_peer_state.proofs.Cases.{by_test}
 

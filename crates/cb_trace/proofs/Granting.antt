@@ -3,7 +3,7 @@ use Rattle.std.proofs.Common.{◌∙◌, List, [], ◌++◌, refl, arith}
 use Rattle.std.proofs.lemmas.List.{length-append}
 use Rattle.cb_hall.specs.Badge.{BadgeState}
 use Rattle.cb_hall.specs.Histories.{Asks, Reply}
-use Rattle.cb_journal.specs.Journal.{JournalState}
+use Rattle.cb_hall.specs.Journal.{JournalState}
 use Rattle.cb_trace.specs.Granting.{HasCounted}
 
 -- no question

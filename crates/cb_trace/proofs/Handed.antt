@@ -5,9 +5,9 @@ use Rattle.cb_block.specs.declared.block.Block.{Block}
 use Rattle.cb_block.specs.Blocks.{IsSoundBlock, texts}
 use Rattle.cb_block.proofs.Only.{only_one}
 use Rattle.cb_hall.specs.Histories.{Reply}
-use Rattle.cb_journal.specs.declared.question.GivenBlock.{GivenBlock}
-use Rattle.cb_journal.specs.declared.question.Question.{Question}
-use Rattle.cb_journal.specs.declared.question.Question.TheVariants.{GiveBlock}
+use Rattle.cb_hall.specs.declared.question.GivenBlock.{GivenBlock}
+use Rattle.cb_hall.specs.declared.question.Question.{Question}
+use Rattle.cb_hall.specs.declared.question.Question.TheVariants.{GiveBlock}
 use Rattle.cb_peer_state.proofs.LawLemmas.{given_sound}
 use Rattle.cb_peer_state.specs.Laws.{IsReached}
 use Rattle.cb_peer_state.specs.Laws.IsReached.{opens}

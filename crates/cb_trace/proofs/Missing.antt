@@ -7,10 +7,10 @@ use Rattle.cb_base.specs.declared.hash.Hash256.{Hash256}
 use Rattle.cb_chain.specs.Entries.{block_hash}
 use Rattle.cb_chain.proofs.BlockIndexes.{same-refl}
 use Rattle.cb_compact.specs.Slots.{Unfilled}
-use Rattle.cb_fetch.specs.Fetching.{has}
+use Rattle.cb_peer_state.specs.Fetching.{has}
 use Rattle.cb_hall.specs.Histories.{Reply}
-use Rattle.cb_journal.specs.declared.answer.Answer.{Answer}
-use Rattle.cb_journal.specs.declared.question.Question.{Question}
+use Rattle.cb_hall.specs.declared.answer.Answer.{Answer}
+use Rattle.cb_hall.specs.declared.question.Question.{Question}
 use Rattle.cb_wire.specs.declared.item.Item.{Item}
 use Rattle.cb_wire.specs.declared.message.Message.{Message}
 use Rattle.cb_peer_state.specs.declared.stage.Stage.{Stage}

@@ -7,12 +7,12 @@ use Rattle.std.proofs.lemmas.List.Elements.{filter_map-append}
 use Rattle.cb_base.specs.declared.hash.Hash256.{Hash256}
 use Rattle.cb_block.specs.declared.block.Block.{Block}
 use Rattle.cb_block.specs.declared.header.Header.{Header}
-use Rattle.cb_journal.specs.declared.answer.Answer.{Answer}
-use Rattle.cb_payload.specs.declared.inventory.Inventory.{Inventory}
+use Rattle.cb_hall.specs.declared.answer.Answer.{Answer}
+use Rattle.cb_wire.specs.declared.inventory.Inventory.{Inventory}
 use Rattle.cb_state.specs.declared.news.News.{News}
-use Rattle.cb_talk.specs.Announcing.{announcing}
-use Rattle.cb_talk.specs.Inventory.{asking_for}
-use Rattle.cb_talk.specs.Serving.{nonces_from}
+use Rattle.cb_peer_state.specs.Announcing.{announcing}
+use Rattle.cb_peer_state.specs.Inventory.{asking_for}
+use Rattle.cb_peer_state.specs.Serving.{nonces_from}
 use Rattle.cb_wire.specs.declared.item.Item.{Item}
 use Rattle.cb_wire.specs.declared.message.Message.{Message}
 use Rattle.cb_wire.specs.declared.message.Message.TheVariants as messages

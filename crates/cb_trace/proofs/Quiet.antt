@@ -8,23 +8,23 @@ use Rattle.std.proofs.lemmas.List.Folds.{list_any-append}
 use Rattle.cb_base.specs.declared.hash.Hash256.{Hash256}
 use Rattle.cb_block.specs.declared.block.Block.{Block}
 use Rattle.cb_block.specs.declared.header.Header.{Header}
-use Rattle.cb_payload.specs.declared.block_transactions.BlockTransactions.{BlockTransactions}
-use Rattle.cb_payload.specs.declared.block_transactions.BlockTransactionsRequest.{BlockTransactionsRequest}
-use Rattle.cb_payload.specs.declared.compact_block.HeaderAndShortIds.{HeaderAndShortIds}
-use Rattle.cb_payload.specs.declared.inventory.Inventory.{Inventory}
-use Rattle.cb_payload.specs.declared.requests.CompactRelay.{CompactRelay}
-use Rattle.cb_payload.specs.declared.requests.HeadersRequest.{HeadersRequest}
-use Rattle.cb_payload.specs.declared.version.Version.{Version}
+use Rattle.cb_wire.specs.declared.block_transactions.BlockTransactions.{BlockTransactions}
+use Rattle.cb_wire.specs.declared.block_transactions.BlockTransactionsRequest.{BlockTransactionsRequest}
+use Rattle.cb_wire.specs.declared.compact_block.HeaderAndShortIds.{HeaderAndShortIds}
+use Rattle.cb_wire.specs.declared.inventory.Inventory.{Inventory}
+use Rattle.cb_wire.specs.declared.requests.CompactRelay.{CompactRelay}
+use Rattle.cb_wire.specs.declared.requests.HeadersRequest.{HeadersRequest}
+use Rattle.cb_wire.specs.declared.version.Version.{Version}
 use Rattle.cb_state.specs.declared.news.News.{News}
 use Rattle.cb_state.specs.declared.serving.Piece.{Piece}
 use Rattle.cb_state.specs.declared.serving.Piece.TheVariants as piece
 use Rattle.cb_state.specs.declared.serving_places.Excerpt.{Excerpt}
 use Rattle.cb_state.specs.declared.serving_places.Excerpt.TheVariants as excerpts
-use Rattle.cb_talk.specs.Announcing.{announcing, telling}
-use Rattle.cb_talk.specs.Greeting.{wish}
-use Rattle.cb_talk.specs.Inventory.{asking_headers}
-use Rattle.cb_talk.specs.Serving.{excerpt_told, lacking_in, nonce_behind, not_found, sent, served}
-use Rattle.cb_tx.specs.declared.tx.Tx.{Tx}
+use Rattle.cb_peer_state.specs.Announcing.{announcing, telling}
+use Rattle.cb_peer_state.specs.Greeting.{wish}
+use Rattle.cb_peer_state.specs.Inventory.{asking_headers}
+use Rattle.cb_peer_state.specs.Serving.{excerpt_told, lacking_in, nonce_behind, not_found, sent, served}
+use Rattle.cb_block.specs.declared.tx.Tx.{Tx}
 use Rattle.cb_wire.specs.declared.item.Item.{Item}
 use Rattle.cb_wire.specs.declared.item.Item.TheVariants.{Good}
 use Rattle.cb_wire.specs.declared.message.Message.{Message}

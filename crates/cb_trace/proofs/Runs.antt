@@ -2,7 +2,7 @@
 use Rattle.std.proofs.Common.{◌≡◌, ◌≢◌, ℕ, zero, suc, ◌+◌, ◌<◌, ◌^◌, Bool, true, false, List, [], ◌∷◌, ◌++◌, get_or, length, refl, sym, ap, ◌∙◌, arith}
 use Rattle.std.specs.Prelude.{◌%◌}
 use Rattle.cb_peer_state.specs.Replying.{differ}
-use Rattle.cb_talk.specs.Serving.{nonces_from}
+use Rattle.cb_peer_state.specs.Serving.{nonces_from}
 use Rattle.cb_trace.specs.Whole.{AreAlternating}
 
 -- ---- nonces

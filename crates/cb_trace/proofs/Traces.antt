@@ -7,9 +7,9 @@ use Rattle.std.proofs.lemmas.List.Sums.{sum_by_push}
 use Rattle.std.proofs.lemmas.List.{append-nil}
 use Rattle.cb_base.specs.declared.fault.Fault.{Fault}
 use Rattle.cb_compact.specs.Slots.{Unfilled}
-use Rattle.cb_fetch.specs.Fetching.{idle}
+use Rattle.cb_peer_state.specs.Fetching.{idle}
 use Rattle.cb_wire.specs.declared.message.Message.{Message}
-use Rattle.cb_journal.specs.declared.question.Question.{Question}
+use Rattle.cb_hall.specs.declared.question.Question.{Question}
 use Rattle.cb_peer_state.specs.declared.settings.Settings.{Settings}
 use Rattle.cb_peer_state.specs.declared.event.Event.{Event}
 use Rattle.cb_peer_state.specs.declared.event.Event.TheVariants as events

@@ -5,8 +5,8 @@ use Rattle.std.specs.List.{fold, list_any}
 use Rattle.std.proofs.lemmas.Bool.{and_parts, cases_Bool, or_left, or_parts}
 use Rattle.std.proofs.lemmas.List.{length-append}
 use Rattle.std.proofs.lemmas.List.Elements.{filter-append}
-use Rattle.cb_journal.specs.declared.answer.Answer.{Answer}
-use Rattle.cb_talk.specs.Greeting.{wishes}
+use Rattle.cb_hall.specs.declared.answer.Answer.{Answer}
+use Rattle.cb_peer_state.specs.Greeting.{wishes}
 use Rattle.cb_wire.specs.declared.item.Item.{Item}
 use Rattle.cb_wire.specs.declared.message.Message.{Message}
 use Rattle.cb_wire.specs.declared.message.Message.TheVariants as messages

@@ -4,8 +4,8 @@ use Rattle.cb_block.specs.declared.block.Block.{Block}
 use Rattle.cb_block.specs.Blocks.{IsSoundBlock, texts}
 use Rattle.cb_block.specs.Soundness.{AreApart, IsSound}
 use Rattle.cb_hall.specs.Histories.{Reply}
-use Rattle.cb_journal.specs.declared.question.Question.{Question}
-use Rattle.cb_journal.specs.declared.question.Question.TheVariants.{GiveBlock}
+use Rattle.cb_hall.specs.declared.question.Question.{Question}
+use Rattle.cb_hall.specs.declared.question.Question.TheVariants.{GiveBlock}
 use Rattle.cb_peer_state.specs.declared.settings.Settings.{Settings}
 use Rattle.cb_trace.specs.declared.trace.TraceEntry.{TraceEntry}
 use Rattle.cb_trace.specs.Fold.{replies}

@@ -2,8 +2,8 @@
 -- beginning. Those before the base were dropped, and their numbers are kept.
 use Rattle.std.specs.Prelude.{◌≡◌, ◌≢◌, ◌⊎◌, ℕ, ◌+◌, ◌*◌, ◌≤◌, ◌<◌, ◌^◌, ◌||◌, ◌&&◌, Bool, true, false, List, [], ◌∷◌, ◌++◌, length, nat_lt, not, is_none, Option, None, if◌then◌else◌}
 use Rattle.std.specs.List.{sum_by}
-use Rattle.cb_fetch.specs.Fetching.{idle}
-use Rattle.cb_journal.specs.declared.question.Question.{Question}
+use Rattle.cb_peer_state.specs.Fetching.{idle}
+use Rattle.cb_hall.specs.declared.question.Question.{Question}
 use Rattle.cb_wire.specs.declared.message.Message.{Message}
 use Rattle.cb_peer_state.specs.declared.settings.Settings.{Settings}
 use Rattle.cb_peer_state.specs.declared.event.Event.{Event}
@@ -155,6 +155,14 @@ pub record IsShed (old new : TraceView) : Type 0 where
   pub before : new.before ≡ old.total
   pub entries : new.entries ≡ []
   pub room : new.room ≡ 0
+
+-- The trace was handed out: the session is the base, and all numbers are kept.
+pub record HandsOut (old new : TraceView) : Type 0 where
+  pub same : IsAsBefore old new
+  pub base : new.base ≡ old.session
+  pub before : new.before ≡ old.total
+  pub entries : new.entries ≡ []
+  pub room : 2 ≤ new.room
 
 -- The session has blocks in download, or a block that is being rebuilt (BIP 152). Only then its
 -- copy takes memory while no question is open.

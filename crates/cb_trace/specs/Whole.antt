@@ -3,13 +3,13 @@ use Rattle.std.specs.Prelude.{◌≡◌, ℕ, ◌+◌, pos, Bool, true, false, n
 use Rattle.cb_base.specs.declared.hash.Hash256.{Hash256}
 use Rattle.cb_block.specs.declared.header.Header.{Header}
 use Rattle.cb_chain.specs.Entries.{block_hash}
-use Rattle.cb_fetch.specs.Fetching.{blocks_in, has}
+use Rattle.cb_peer_state.specs.Fetching.{blocks_in, has}
 use Rattle.cb_hall.specs.Histories.{Reply}
-use Rattle.cb_journal.specs.declared.answer.Answer.{Answer}
-use Rattle.cb_journal.specs.declared.answer.Answer.TheVariants as answers
-use Rattle.cb_journal.specs.declared.question.Question.{Question}
-use Rattle.cb_journal.specs.declared.question.Question.TheVariants as questions
-use Rattle.cb_journal.specs.declared.question.Request.TheVariants.{After}
+use Rattle.cb_hall.specs.declared.answer.Answer.{Answer}
+use Rattle.cb_hall.specs.declared.answer.Answer.TheVariants as answers
+use Rattle.cb_hall.specs.declared.question.Question.{Question}
+use Rattle.cb_hall.specs.declared.question.Question.TheVariants as questions
+use Rattle.cb_hall.specs.declared.question.Request.TheVariants.{After}
 use Rattle.cb_wire.specs.declared.item.Item.{Item}
 use Rattle.cb_wire.specs.declared.item.Item.TheVariants.{Good}
 use Rattle.cb_wire.specs.declared.message.Message.{Message}

@@ -7,7 +7,7 @@ ghost use Rattle.cb_trace.specs.Trace.{asked_from};
 
 use crate::trace::{LAST_ENTRY, TraceEntry};
 use cb_base::Fault;
-use cb_journal::Question;
+use cb_hall::Question;
 use cb_peer::{CloseReason, Session};
 use std::alloc::Global;
 

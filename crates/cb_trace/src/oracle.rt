@@ -6,8 +6,7 @@ ghost use Rattle.cb_hall.specs.Histories.{Asks, IsRefused, Reply};
 ghost use Rattle.cb_peer_state.specs.Questions.{fits};
 
 use cb_base::{Fault, Seed};
-use cb_hall::{Badge, Hall};
-use cb_journal::{Answer, Question};
+use cb_hall::{Answer, Badge, Hall, Question};
 
 /// What a session's questions are asked of, under the connection's badge: its permit to ask the
 /// hall. It is a hall (Bitcoin Core: ChainstateManager and CTxMemPool), or something that leads to

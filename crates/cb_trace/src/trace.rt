@@ -1,4 +1,4 @@
-ghost use Rattle.std.specs.Prelude.{◌≡◌, ℕ, ◌+◌, ◌*◌, ◌≤◌, ◌<◌, ◌^◌, List, [], ◌∷◌, true, false, Bool, None, IfOk, IsOk, IsOkUnless, OnErr};
+ghost use Rattle.std.specs.Prelude.{◌≡◌, ℕ, ◌+◌, ◌*◌, ◌≤◌, ◌<◌, ◌^◌, List, [], ◌∷◌, true, false, Bool, None, IfOk, IsOk, IsOkUnless, OnErr, OnOk};
 ghost use Rattle.cb_base.specs.declared.fault.Fault.TheVariants.{Memory};
 ghost use Rattle.cb_peer_state.specs.Event.{ends_at_once};
 ghost use Rattle.cb_peer_state.specs.Outcomes.{Answers};
@@ -9,11 +9,12 @@ ghost use Rattle.cb_trace.specs.Kept.{KeepsHistory, StillKeeps};
 
 use crate::asking::questions_asked;
 use cb_base::{Fault, Hash256, Seed};
-use cb_journal::Question;
+use cb_hall::Question;
 use cb_peer::{CloseReason, Event, Peer, Session, Settings, State};
-use cb_talk::Outgoing;
+use cb_peer_state::Outgoing;
 use std::alloc::Global;
 use std::marker::Model;
+use std::mem;
 
 /// The entry, counted from 1, that ends every trace.
 pub(crate) const LAST_ENTRY: u64 = 1 << 62;
@@ -67,7 +68,6 @@ impl Counts {
 /// events since the beginning. Its base is the session after the entries that were dropped, and
 /// their numbers are kept. Contracts see the settings, the base, the numbers before it, the entries
 /// since, the session after them, the numbers of all entries, and the room for more entries.
-#[derive(Drop)]
 pub struct Trace {
     alloc: Global,
     settings: Settings,
@@ -112,28 +112,31 @@ impl Model for Trace {
         × (trace.held ≡ min (held_of trace.entries.items) (2 ^ 64 - 1)) };
 }
 
+impl Drop for Trace {
+    fn drop(self) {
+        let Trace {
+            alloc: _,
+            settings: _,
+            base: _,
+            before: _,
+            entries: _,
+            held: _,
+            session: _,
+            total: _,
+        } = self;
+    }
+}
+
 impl Trace {
     ghost use Rattle.std.specs.Prelude.{◌-◌, min, length};
     ghost use Rattle.cb_peer_state.specs.Session.{openings};
     ghost use Rattle.cb_peer_state.specs.declared.event.Event.TheVariants as events;
-    ghost use Rattle.cb_trace.specs.Trace.{AskedLast, Grows, IsOpen, IsShed, NeedsBase, Readied, Rests, StandsFor, TraceSteps, TraceView, asked_from, base_account, held_of, is_due, weight_of};
+    ghost use Rattle.cb_trace.specs.Trace.{AskedLast, Grows, HandsOut, IsOpen, IsShed, NeedsBase, Readied, Rests, StandsFor, TraceSteps, TraceView, asked_from, base_account, held_of, is_due, weight_of};
 
     /// A trace without entries and with room for one, and the messages that open its session. The
-    /// table of the session's wanted blocks has the fixed seed.
+    /// table of the session's wanted blocks has this seed, which changes no result.
     ///
     /// Fails only with `Fault::Memory`.
-    pub fn new(alloc: Global, settings: Settings) -> Result<(Trace, Vec<Outgoing>), Fault>
-        ensures settings { IfOk result (λ made. made.0.settings ≡ settings) }
-        ensures history { IfOk result (λ made. StandsFor made.0 []) }
-        ensures keeps { IfOk result (λ made. KeepsHistory made.0) }
-        ensures room { IfOk result (λ made. 1 ≤ made.0.room) }
-        ensures messages { IfOk result (λ made. made.1.items ≡ openings settings) }
-        ensures memory { IsOkUnless result Memory }
-    {
-        Trace::with_seed(alloc, settings, Seed::fixed())
-    }
-
-    /// As `new`. The table of the session's wanted blocks has this seed, which changes no result.
     pub fn with_seed(
         alloc: Global,
         settings: Settings,
@@ -318,6 +321,29 @@ impl Trace {
         }
         self.drop_entries();
         0
+    }
+
+    /// Takes a checkpoint, and hands out what it drops: for each answer since the base, in order,
+    /// the question that was open before it; and the entries, which have the answers.
+    ///
+    /// Fails only with `Fault::Memory`; nothing changes then.
+    pub fn hand_out(&mut self) -> Result<(Vec<Option<Question>>, Vec<TraceEntry>), Fault>
+        requires { self.old.session.pending ≡ None }
+        ensures asked { IfOk result
+            (λ made. made.0.items ≡ asked_from (base_account self.old) self.old.entries) }
+        ensures entries { IfOk result (λ made. made.1.items ≡ self.old.entries) }
+        ensures hands { OnOk result (HandsOut self.old self.new) }
+        ensures err { OnErr result (self.new ≡ self.old) }
+        ensures memory { IsOkUnless result Memory }
+    {
+        let asked = self.asked(self.alloc)?;
+        let base = self.session.copy(self.alloc)?;
+        let room = Vec::with_capacity(self.alloc, 2)?;
+        self.base = base;
+        self.before = self.total;
+        self.held = 0;
+        let entries = mem::replace(&mut self.entries, room);
+        Ok((asked, entries))
     }
 
     /// Drops the entries of a trace whose session is over. That is the base then.

@@ -1,5 +1,15 @@
+pub mod Beginnings
+pub mod CompactTrips
+pub mod Compacting
+pub mod Counting
 pub mod Envelopes
+pub mod Fetching
+pub mod Introducing
 pub mod Messages
 pub mod Names
+pub mod Needing
+pub mod Requesting
+pub mod RoundTrips
+pub mod SixBytes
 pub mod Streams
 pub mod Texts

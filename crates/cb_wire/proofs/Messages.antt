@@ -9,38 +9,38 @@ use Rattle.cb_base.specs.declared.fault.Fault.{Fault}
 use Rattle.cb_base.specs.declared.fault.Fault.TheVariants.{Memory}
 use Rattle.cb_base.specs.Reading.{Read, ◌>>=◌, number_at}
 use Rattle.cb_base.proofs.Fields.{AreBytes, Takes, bind_ok, ok_is, wide64, number_takes, number_again}
-use Rattle.cb_tx.specs.declared.tx.Tx as transaction
-use Rattle.cb_tx.specs.Text.{list_text, tx_text, IsTx}
-use Rattle.cb_tx.specs.Reading.{tx_at}
-use Rattle.cb_tx.proofs.Laws.{tx_spells, tx_again}
+use Rattle.cb_block.specs.declared.tx.Tx as transaction
+use Rattle.cb_block.specs.TxText.{list_text, tx_text, IsTx}
+use Rattle.cb_block.specs.TxReading.{tx_at}
+use Rattle.cb_block.proofs.TxLaws.{tx_spells, tx_again}
 use Rattle.cb_block.specs.declared.block.Block as blocks
 use Rattle.cb_block.specs.declared.header.Header as header
-use Rattle.cb_block.specs.Text.{block_text, IsBlock, IsHeader, listed_header_text}
-use Rattle.cb_block.specs.Reading.{block_at, listed_header_at}
+use Rattle.cb_block.specs.BlockText.{block_text, IsBlock, IsHeader, listed_header_text}
+use Rattle.cb_block.specs.BlockReading.{block_at, listed_header_at}
 use Rattle.cb_block.proofs.Headers.{block_spells, block_again}
 use Rattle.cb_wire.specs.declared.command.Command.{Command}
 use Rattle.cb_wire.specs.declared.command.Command.TheVariants as known
-use Rattle.cb_payload.specs.declared.inventory.Inventory.{Inventory}
+use Rattle.cb_wire.specs.declared.inventory.Inventory.{Inventory}
 use Rattle.cb_wire.specs.declared.message.Message.{Message}
 use Rattle.cb_wire.specs.declared.message.Message.TheVariants.{Version, Verack, Ping, Pong, SendHeaders, SendCmpct, Inv, GetData, NotFound, Headers, GetHeaders, Tx, Block, CmpctBlock, GetBlockTxn, BlockTxn, Unknown}
-use Rattle.cb_payload.specs.declared.block_transactions.BlockTransactions.{BlockTransactions}
-use Rattle.cb_payload.specs.declared.block_transactions.BlockTransactionsRequest.{BlockTransactionsRequest}
-use Rattle.cb_payload.specs.declared.compact_block.HeaderAndShortIds.{HeaderAndShortIds}
-use Rattle.cb_payload.specs.declared.requests.CompactRelay.{CompactRelay}
-use Rattle.cb_payload.specs.declared.requests.HeadersRequest.{HeadersRequest}
+use Rattle.cb_wire.specs.declared.block_transactions.BlockTransactions.{BlockTransactions}
+use Rattle.cb_wire.specs.declared.block_transactions.BlockTransactionsRequest.{BlockTransactionsRequest}
+use Rattle.cb_wire.specs.declared.compact_block.HeaderAndShortIds.{HeaderAndShortIds}
+use Rattle.cb_wire.specs.declared.requests.CompactRelay.{CompactRelay}
+use Rattle.cb_wire.specs.declared.requests.HeadersRequest.{HeadersRequest}
 use Rattle.cb_wire.specs.Command.{IsCommand, known_command, known_commands, command_name, is_command}
-use Rattle.cb_payload.specs.BlockTransactions.{IsBlockTxs, IsTxsRequest, block_txs_at, block_txs_text, txs_request_at, txs_request_text}
-use Rattle.cb_payload.specs.CompactBlocks.{IsCompactBlock, compact_block_at, compact_block_text}
-use Rattle.cb_payload.specs.Lists.{IsEntry, entry_at, entry_text, listed_at}
-use Rattle.cb_payload.specs.Requests.{IsRequest, compact_relay_at, compact_relay_text, request_at, request_text}
-use Rattle.cb_payload.specs.Version.{version_at}
+use Rattle.cb_wire.specs.BlockTransactions.{IsBlockTxs, IsTxsRequest, block_txs_at, block_txs_text, txs_request_at, txs_request_text}
+use Rattle.cb_wire.specs.CompactBlocks.{IsCompactBlock, compact_block_at, compact_block_text}
+use Rattle.cb_wire.specs.Lists.{IsEntry, entry_at, entry_text, listed_at}
+use Rattle.cb_wire.specs.Requests.{IsRequest, compact_relay_at, compact_relay_text, request_at, request_text}
+use Rattle.cb_wire.specs.Version.{version_at}
 use Rattle.cb_wire.specs.Grammar.{name_of, payload_text, IsPayload, Spells, IsMessage, IsWithinLimits, whole, payload_at, message_under, message_at}
-use Rattle.cb_payload.specs.RoundTrip.{Gives}
-use Rattle.cb_payload.proofs.Compacting.{compact_block_takes, compact_block_again}
-use Rattle.cb_payload.proofs.Fetching.{block_txs_takes, block_txs_again, txs_request_takes, txs_request_again, txs_request_most}
-use Rattle.cb_payload.proofs.Counting.{entry_kind, listed_header_kind, listed_takes, listed_again, entries_most, headers_most}
-use Rattle.cb_payload.proofs.Introducing.{version_spells, version_read, version_text_spells, version_most}
-use Rattle.cb_payload.proofs.Requesting.{compact_relay_takes, compact_relay_again, compact_relay_long, request_takes, request_again, request_most}
+use Rattle.cb_wire.specs.RoundTrip.{Gives}
+use Rattle.cb_wire.proofs.Compacting.{compact_block_takes, compact_block_again}
+use Rattle.cb_wire.proofs.Fetching.{block_txs_takes, block_txs_again, txs_request_takes, txs_request_again, txs_request_most}
+use Rattle.cb_wire.proofs.Counting.{entry_kind, listed_header_kind, listed_takes, listed_again, entries_most, headers_most}
+use Rattle.cb_wire.proofs.Introducing.{version_spells, version_read, version_text_spells, version_most}
+use Rattle.cb_wire.proofs.Requesting.{compact_relay_takes, compact_relay_again, compact_relay_long, request_takes, request_again, request_most}
 
 -- ---- names
 

@@ -1,24 +1,24 @@
 -- The grammar of messages: how each payload is written, and how it is read from left to right. Each
--- message has one row in each table. Payloads of several fields are defined in cb_payload.
+-- message has one row in each table. Payloads of several fields are defined in cb_wire.
 use Rattle.std.specs.Prelude.{◌≡◌, ℕ, ◌≤◌, ◌<◌, ◌^◌, ◌⊎◌, List, [], ◌∷◌, length, All, Option, Some, None, Result, Ok, Err, IsOk}
 use Rattle.std.specs.Int.{w64, to_le_bytes}
 use Rattle.cb_base.specs.declared.fault.Fault.{Fault}
 use Rattle.cb_base.specs.declared.fault.Fault.TheVariants.{Trailing}
 use Rattle.cb_base.specs.Reading.{◌>>=◌, number_at}
-use Rattle.cb_tx.specs.Text.{list_text, tx_text, IsTx}
-use Rattle.cb_tx.specs.Reading as transactions
-use Rattle.cb_block.specs.Text.{block_text, IsBlock, IsHeader, listed_header_text}
-use Rattle.cb_block.specs.Reading as blocks
+use Rattle.cb_block.specs.TxText.{list_text, tx_text, IsTx}
+use Rattle.cb_block.specs.TxReading as transactions
+use Rattle.cb_block.specs.BlockText.{block_text, IsBlock, IsHeader, listed_header_text}
+use Rattle.cb_block.specs.BlockReading as blocks
 use Rattle.cb_wire.specs.declared.command.Command.{Command}
 use Rattle.cb_wire.specs.declared.command.Command.TheVariants as known
 use Rattle.cb_wire.specs.declared.message.Message.{Message}
 use Rattle.cb_wire.specs.declared.message.Message.TheVariants.{Version, Verack, Ping, Pong, SendHeaders, SendCmpct, Inv, GetData, NotFound, Headers, GetHeaders, Tx, Block, CmpctBlock, GetBlockTxn, BlockTxn, Unknown}
 use Rattle.cb_wire.specs.Command.{command_name, known_command, IsUnknownName}
-use Rattle.cb_payload.specs.Lists.{CountsSome, IsEntry, entry_at, entry_text, limited_at, listed_at}
-use Rattle.cb_payload.specs.BlockTransactions as fetched
-use Rattle.cb_payload.specs.CompactBlocks as compacts
-use Rattle.cb_payload.specs.Requests as requests
-use Rattle.cb_payload.specs.Version as versions
+use Rattle.cb_wire.specs.Lists.{CountsSome, IsEntry, entry_at, entry_text, limited_at, listed_at}
+use Rattle.cb_wire.specs.BlockTransactions as fetched
+use Rattle.cb_wire.specs.CompactBlocks as compacts
+use Rattle.cb_wire.specs.Requests as requests
+use Rattle.cb_wire.specs.Version as versions
 
 -- the name of a message's command
 abbrev pub name_of : Message → List ℕ

@@ -1,5 +1,13 @@
+pub mod BlockTransactions
 pub mod Command
+pub mod CompactBlocks
 pub mod Envelope
 pub mod Grammar
 pub mod Hashes
+pub mod Kinds
+pub mod Lists
+pub mod Requests
+pub mod RoundTrip
+pub mod ShortForms
 pub mod Stream
+pub mod Version

@@ -5,7 +5,7 @@ ghost use Rattle.cb_wire.specs.Command.{IsCommand, known_command};
 ghost use Rattle.cb_wire.specs.declared.message.Message.{Message};
 ghost use Rattle.cb_wire.specs.declared.item.Item.TheVariants.{Good};
 ghost use Rattle.cb_wire.specs.Grammar.{message_at, Spells, IsMessage, IsPaid, IsUnpaid, IsWithinLimits};
-ghost use Rattle.cb_payload.specs.RoundTrip.{Gives};
+ghost use Rattle.cb_wire.specs.RoundTrip.{Gives};
 ghost use Rattle.cb_wire.specs.Envelope.{envelope_text, text};
 ghost use Rattle.cb_wire.specs.Stream.{Stream};
 
@@ -105,7 +105,7 @@ pub fn encode_into(alloc: Global, buffer: &mut Vec<u8>, message: &Message) -> Re
 /// Appends an envelope to the buffer: magic, the command padded with zeros to 12 bytes, the length,
 /// the checksum, and the payload. It grows the buffer once. Fails only with `Fault::Memory`; the
 /// buffer is then unchanged.
-fn put_envelope(buffer: &mut Vec<u8>, name: &str, payload: &[u8]) -> Result<(), Fault>
+pub fn put_envelope(buffer: &mut Vec<u8>, name: &str, payload: &[u8]) -> Result<(), Fault>
     requires name { IsCommand name.now }
     requires limit { length payload.now ≤ 4000000 }
     ensures text { OnOk result

@@ -107,7 +107,7 @@ pub fn item_of(alloc: Global, bytes: &[u8], size: usize, hash: &Hash256) -> Resu
 
 /// Whether the last 4 bytes of the header are the checksum of the payload with this double hash.
 #[tactic(auto, unfolding(crate::specs::Envelope::checksum))]
-fn has_checksum(header: &[u8], hash: &Hash256) -> bool
+pub fn has_checksum(header: &[u8], hash: &Hash256) -> bool
     requires { length header.now ≡ 24 }
     ensures { (payload : List ℕ) → hash.now ≡ double_hash payload →
         result ≡ bytes_eq (drop 20 header.now) (checksum payload) }
@@ -118,7 +118,7 @@ fn has_checksum(header: &[u8], hash: &Hash256) -> bool
 }
 
 /// The command in an envelope's header, if it has the form of one.
-fn command_of(header: &[u8]) -> Option<&str>
+pub fn command_of(header: &[u8]) -> Option<&str>
     requires { length header.now ≡ 24 }
     ensures command { option_map (λ name. name.now) result
         ≡ command_in (take 12 (drop 4 header.now)) }

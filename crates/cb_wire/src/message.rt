@@ -1,28 +1,31 @@
 //! The table of messages. Each message has one row in each function here, and a command in
 //! command.rt.
 //!
-//! Payloads of several fields are read and written in cb_payload.
+//! Payloads of several fields are read and written in cb_wire.
 ghost use Rattle.std.specs.Prelude.{◌≡◌, ◌^◌, ◌<◌, ◌≤◌, ◌⊎◌, ◌++◌, IsTrue, ◌↔◌, length, IfOk, IsOk, IsOkUnless, OnErr, OnOk, Ok, Err, Some};
 ghost use Rattle.std.specs.Int.{w64, to_le_bytes};
 ghost use Rattle.cb_base.specs.declared.fault.Fault.{Fault};
 ghost use Rattle.cb_base.specs.declared.fault.Fault.TheVariants.{Memory};
 ghost use Rattle.cb_wire.specs.Command.{IsCommand, IsUnknownName};
 ghost use Rattle.cb_wire.specs.Grammar.{HoldsNothing, IsMessage, IsPaid, IsUnpaid, IsWithinLimits, name_of, payload_at, payload_text, whole};
-ghost use Rattle.cb_payload.specs.RoundTrip.{Gives};
-ghost use Rattle.cb_tx.specs.Writing.{Extends};
+ghost use Rattle.cb_wire.specs.RoundTrip.{Gives};
+ghost use Rattle.cb_block.specs.TxWriting.{Extends};
 
-use crate::command::{Command, UnknownName};
-use crate::payload::Payload;
-use cb_base::{Cursor, Fault, Shared};
-use cb_block::{Block, read_block, write_block};
-use cb_payload::{
-    BlockTransactions, BlockTransactionsRequest, CompactRelay, Entries, HeaderAndShortIds,
-    HeaderList, HeadersRequest, Version, entries_size, headers_size, put_block_txs,
-    put_compact_block, put_compact_relay, put_request, put_txs_request, put_version,
-    read_block_txs, read_compact_block, read_compact_relay, read_list, read_request,
-    read_txs_request, read_version,
+use crate::block_transactions::{
+    BlockTransactions, BlockTransactionsRequest, put_block_txs, put_txs_request, read_block_txs,
+    read_txs_request,
 };
-use cb_tx::{Tx, put_items, read_tx, write_tx};
+use crate::command::{Command, UnknownName};
+use crate::compact_block::{HeaderAndShortIds, put_compact_block, read_compact_block};
+use crate::inventory::{Entries, HeaderList};
+use crate::lists::{entries_size, headers_size, read_list};
+use crate::payload::Payload;
+use crate::requests::{
+    CompactRelay, HeadersRequest, put_compact_relay, put_request, read_compact_relay, read_request,
+};
+use crate::version::{Version, put_version, read_version};
+use cb_base::{Cursor, Fault, Shared};
+use cb_block::{Block, Tx, put_items, read_block, read_tx, write_block, write_tx};
 use std::alloc::Global;
 
 /// A message of Bitcoin's peer-to-peer protocol.
@@ -125,7 +128,7 @@ fn whole<T: Drop>(value: T, cursor: &Cursor) -> Result<T, Fault>
 
 /// Appends the payload of a message to `out`. Fails only with `Fault::Memory`; `out` may then end
 /// with a part of the payload, behind what it had.
-#[tactic(auto, using(cb_tx::proofs::Appends::appends))]
+#[tactic(auto, using(cb_block::proofs::Appends::appends))]
 pub fn put_payload(out: &mut Vec<u8>, message: &Message) -> Result<(), Fault>
     ensures ok { OnOk result (out.new.items ≡ out.old.items ++ payload_text message.now) }
     ensures err { OnErr result (Extends out.old.items out.new.items) }
@@ -155,7 +158,7 @@ pub fn put_payload(out: &mut Vec<u8>, message: &Message) -> Result<(), Fault>
 }
 
 /// Appends the nonce of a `ping` or a `pong`. Fails only with `Fault::Memory`.
-#[tactic(auto, using(cb_tx::proofs::Appends::appends))]
+#[tactic(auto, using(cb_block::proofs::Appends::appends))]
 fn put_nonce(out: &mut Vec<u8>, nonce: u64) -> Result<(), Fault>
     ensures ok { OnOk result (out.new.items ≡ out.old.items ++ to_le_bytes w64 nonce) }
     ensures err { OnErr result (Extends out.old.items out.new.items) }
@@ -167,7 +170,7 @@ fn put_nonce(out: &mut Vec<u8>, nonce: u64) -> Result<(), Fault>
 }
 
 /// Appends the payload of an unknown command. Fails only with `Fault::Memory`.
-#[tactic(auto, using(cb_tx::proofs::Appends::appends))]
+#[tactic(auto, using(cb_block::proofs::Appends::appends))]
 fn put_unknown(out: &mut Vec<u8>, name: &UnknownName, payload: &Payload) -> Result<(), Fault>
     ensures ok { OnOk result (out.new.items ≡ out.old.items ++ payload.now) }
     ensures err { OnErr result (Extends out.old.items out.new.items) }

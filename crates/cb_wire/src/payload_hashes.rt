@@ -7,8 +7,7 @@ ghost use Rattle.cb_wire.specs.Envelope.{front_at};
 ghost use Rattle.cb_wire.specs.Hashes.{Cuts, Foretells};
 
 use crate::envelope::{Front, HEADER_LEN, front_of, payload_of};
-use cb_base::{Fault, Hash256, dsha};
-use cb_lanes::dsha_four;
+use cb_base::{Fault, Hash256, dsha, dsha_four};
 use std::alloc::Global;
 use std::collections::VecDeque;
 use std::marker::Model;

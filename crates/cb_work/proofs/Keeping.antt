@@ -9,7 +9,7 @@ use Rattle.cb_peer_state.specs.declared.event.Event.{Event}
 use Rattle.cb_peer_state.specs.Event.{begins, kind_of}
 use Rattle.cb_session.specs.Conversation.{beat_in}
 use Rattle.cb_crew.specs.declared.work.Given.{Given}
-use Rattle.cb_reader.specs.declared.input.Input.{Input}
+use Rattle.cb_session.specs.declared.input.Input.{Input}
 use Rattle.cb_work.specs.PeerWork.{IsPeerWork, Serves, WorkState, is_over, items_after}
 use Rattle.cb_work.proofs.Serving.{Begins, KeepsConnection, next_badge, serves_flags, serves_next}
 

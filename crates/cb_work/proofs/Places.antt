@@ -6,11 +6,11 @@ use Rattle.std.proofs.lemmas.Bool.Decides.{nat_tests}
 use Rattle.std.proofs.lemmas.List.{append_assoc, length-take-le, take_more}
 use Rattle.std.proofs.lemmas.List.Elements.{All-append, All-cons, All-nil}
 use Rattle.std.proofs.lemmas.List.Sums.{sum_by-append, sum_by-cons}
-use Rattle.cb_work.specs.declared.due.Told.{Told}
+use Rattle.cb_work.specs.declared.due.ToldTip.{ToldTip}
 use Rattle.cb_work.specs.Due.{due_places, is_due, is_due_as, places_where}
 
 -- some, and then others
-pub places_then : (test : Told → Bool) (place : ℕ) (all others : List Told) → places_where test place (all ++ others) ≡ places_where test place all ++ places_where test (place + length all) others
+pub places_then : (test : ToldTip → Bool) (place : ℕ) (all others : List ToldTip) → places_where test place (all ++ others) ≡ places_where test place all ++ places_where test (place + length all) others
 places_then test place [] others = let here : place ≡ place + 0 = omega arith in ap (λ (n : ℕ). places_where test n others) here
 places_then test place (first ∷ all) others =
     let there : place + 1 + length all ≡ place + length (first ∷ all) = omega arith in
@@ -22,11 +22,11 @@ places_then test place (first ∷ all) others =
     ]
 
 -- one more was looked at
-pub one_more : (test : Told → Bool) (all : List Told) (place : ℕ) (d : Told) (before after : List ℕ) → place < length all
+pub one_more : (test : ToldTip → Bool) (all : List ToldTip) (place : ℕ) (d : ToldTip) (before after : List ℕ) → place < length all
     → after ≡ before ++ (if test (get_or all place d) then place ∷ [] else []) → (first : List ℕ) → before ≡ first ++ places_where test 0 (take place all)
     → after ≡ first ++ places_where test 0 (take (place + 1) all)
 one_more test all place d before after within put first is =
-    let here : Told = get_or all place d in
+    let here : ToldTip = get_or all place d in
     let seen : List ℕ = places_where test 0 (take place all) in
     let whole : length (take place all) ≡ place = length-take-le place all (omega (arith, within)) in
     let many : 0 + length (take place all) ≡ place = omega (arith, whole) in
@@ -49,7 +49,7 @@ count_front : (n place : ℕ) (others : List ℕ) → count_by (nat_eq n) (place
 count_front n place others = sum_by-cons _ place others
 
 -- not in front of all
-pub none_below : (test : Told → Bool) (n place : ℕ) (all : List Told) → n < place → count_by (nat_eq n) (places_where test place all) ≡ 0
+pub none_below : (test : ToldTip → Bool) (n place : ℕ) (all : List ToldTip) → n < place → count_by (nat_eq n) (places_where test place all) ≡ 0
 none_below test n place [] low = refl
 none_below test n place (first ∷ others) low =
     let later : count_by (nat_eq n) (places_where test (place + 1) others) ≡ 0 = none_below test n (place + 1) others (omega (arith, low)) in
@@ -59,7 +59,7 @@ none_below test n place (first ∷ others) low =
     ]
 
 -- not behind all
-pub none_above : (test : Told → Bool) (n place : ℕ) (all : List Told) → place + length all ≤ n → count_by (nat_eq n) (places_where test place all) ≡ 0
+pub none_above : (test : ToldTip → Bool) (n place : ℕ) (all : List ToldTip) → place + length all ≤ n → count_by (nat_eq n) (places_where test place all) ≡ 0
 none_above test n place [] high = refl
 none_above test n place (first ∷ others) high =
     let later : count_by (nat_eq n) (places_where test (place + 1) others) ≡ 0 = none_above test n (place + 1) others (omega (arith, high)) in
@@ -69,7 +69,7 @@ none_above test n place (first ∷ others) high =
     ]
 
 -- one of a list stands once if it passes, and never if it doesn't
-pub once_if : (test : Told → Bool) (before after : List Told) (told : Told) → count_by (nat_eq (length before)) (places_where test 0 (before ++ told ∷ after)) ≡ cond (test told) 1 0
+pub once_if : (test : ToldTip → Bool) (before after : List ToldTip) (told : ToldTip) → count_by (nat_eq (length before)) (places_where test 0 (before ++ told ∷ after)) ≡ cond (test told) 1 0
 once_if test before after told =
     let n : ℕ = length before in
     let front : count_by (nat_eq n) (places_where test 0 before) ≡ 0 = none_above test n 0 before (omega arith) in
@@ -90,9 +90,9 @@ both true true = refl
 both true false = refl
 both false high = refl
 
-pub stands_once : (tip : ℕ) (before after : List Told) (told : Told) → count_by (nat_eq (length before)) (due_places tip (before ++ told ∷ after)) ≡ (if is_due tip told then 1 else 0)
+pub stands_once : (tip : ℕ) (before after : List ToldTip) (told : ToldTip) → count_by (nat_eq (length before)) (due_places tip (before ++ told ∷ after)) ≡ (if is_due tip told then 1 else 0)
 stands_once tip before after told =
-    let all : List Told = before ++ told ∷ after in
+    let all : List ToldTip = before ++ told ∷ after in
     let parts : count_by (nat_eq (length before)) (due_places tip all) ≡ count_by (nat_eq (length before)) (places_where (is_due_as tip true) 0 all) + count_by (nat_eq (length before)) (places_where (is_due_as tip false) 0 all) =
     sum_by-append _ (places_where (is_due_as tip true) 0 all) (places_where (is_due_as tip false) 0 all) in
     let high = once_if (is_due_as tip true) before after told in
@@ -102,7 +102,7 @@ stands_once tip before after told =
 
 -- ---- no other place stands there
 
-pub all_within : (test : Told → Bool) (place end : ℕ) (all : List Told) → place + length all ≤ end → All (λ (p : ℕ). p < end) (places_where test place all)
+pub all_within : (test : ToldTip → Bool) (place end : ℕ) (all : List ToldTip) → place + length all ≤ end → All (λ (p : ℕ). p < end) (places_where test place all)
 all_within test place end [] within = All-nil (λ (p : ℕ). p < end)
 all_within test place end (told ∷ others) within =
     let later = all_within test (place + 1) end others (omega (arith, within)) in
@@ -111,7 +111,7 @@ all_within test place end (told ∷ others) within =
       | inr isnt ↦ rw isnt later
     ]
 
-pub stand_within : (tip : ℕ) (all : List Told) → All (λ (p : ℕ). p < length all) (due_places tip all)
+pub stand_within : (tip : ℕ) (all : List ToldTip) → All (λ (p : ℕ). p < length all) (due_places tip all)
 stand_within tip all =
     All-append (λ (p : ℕ). p < length all) (places_where (is_due_as tip true) 0 all) (places_where (is_due_as tip false) 0 all)
     (all_within (is_due_as tip true) 0 (length all) all (omega arith)) (all_within (is_due_as tip false) 0 (length all) all (omega arith))

@@ -16,11 +16,11 @@ use Rattle.cb_trace.specs.declared.trace.Counts.{Counts}
 use Rattle.cb_trace.specs.declared.trace.TraceEntry.{TraceEntry}
 use Rattle.cb_trace.specs.Fold.{account_of, beats_of, has_kind, inputs_of, replies, sends}
 use Rattle.cb_trace.specs.Trace.{StandsFor, TraceView}
-use Rattle.cb_talk.specs.Writing.{counted}
+use Rattle.cb_peer_state.specs.Writing.{counted}
 use Rattle.cb_crew.specs.declared.work.Given.{Given}
 use Rattle.cb_crew.specs.declared.work.Given.TheVariants as given
-use Rattle.cb_reader.specs.declared.input.Input.{Input}
-use Rattle.cb_reader.specs.declared.input.Input.TheVariants as inputs
+use Rattle.cb_session.specs.declared.input.Input.{Input}
+use Rattle.cb_session.specs.declared.input.Input.TheVariants as inputs
 use Rattle.cb_work.specs.PeerWork.{Serves, WorkState, events_of, is_over, was_starved}
 use Rattle.cb_work.proofs.Serving.{unstarved}
 

@@ -24,8 +24,8 @@ use Rattle.cb_session.proofs.Accounts.{AccountsOf, IsOracle, not_both}
 use Rattle.cb_session.proofs.Standing.{stands_first, stands_ready, stands_starved}
 use Rattle.cb_crew.specs.declared.work.Given.{Given}
 use Rattle.cb_crew.specs.declared.work.Given.TheVariants as given
-use Rattle.cb_reader.specs.declared.input.Input.{Input}
-use Rattle.cb_reader.specs.declared.input.Input.TheVariants as inputs
+use Rattle.cb_session.specs.declared.input.Input.{Input}
+use Rattle.cb_session.specs.declared.input.Input.TheVariants as inputs
 use Rattle.cb_work.specs.PeerWork.{HoldsNothing, Serves, WorkState, beginning, events_of, is_over, items_after, reached, was_starved}
 
 -- ---- one item more

@@ -13,7 +13,7 @@ use Rattle.cb_peer_state.specs.Event.{begins, is_beat, kind_of}
 use Rattle.cb_session.specs.Conversation.{beat_in}
 use Rattle.cb_session.proofs.Accounts.{not_both}
 use Rattle.cb_crew.specs.declared.work.Given.{Given}
-use Rattle.cb_reader.specs.declared.input.Input.{Input}
+use Rattle.cb_session.specs.declared.input.Input.{Input}
 use Rattle.cb_work.specs.declared.flags.Beats.{Beats}
 use Rattle.cb_work.specs.Flags.{due_by, due_in}
 use Rattle.cb_work.specs.PeerWork.{EachBeat, GaveBeats, Serves, ServesNext, ServesOn, WasTicked, WorkState, is_over, items_after}

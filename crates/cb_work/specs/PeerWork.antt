@@ -16,8 +16,8 @@ use Rattle.cb_trace.specs.Trace.{TraceView}
 use Rattle.cb_session.specs.Conversation.{Origin, Progress, Stands, beat_in, progress}
 use Rattle.cb_crew.specs.declared.work.Given.{Given}
 use Rattle.cb_crew.specs.declared.work.Given.TheVariants as given
-use Rattle.cb_reader.specs.declared.input.Input.{Input}
-use Rattle.cb_reader.specs.declared.input.Input.TheVariants as inputs
+use Rattle.cb_session.specs.declared.input.Input.{Input}
+use Rattle.cb_session.specs.declared.input.Input.TheVariants as inputs
 use Rattle.cb_work.specs.declared.flags.Beats.{Beats}
 use Rattle.cb_work.specs.Flags.{due_in}
 

@@ -2,7 +2,7 @@
 use Rattle.std.specs.Prelude.{◌≡◌, ◌≢◌, ℕ, max, take, Option, None, Some}
 use Rattle.std.specs.Int.{w64, from_le_bytes}
 use Rattle.cb_base.specs.declared.hash.Hash256.{Hash256}
-use Rattle.cb_journal.specs.Journal.{JournalState}
+use Rattle.cb_hall.specs.Journal.{JournalState}
 use Rattle.cb_hall.specs.Hall.{look_of}
 
 -- the tip that a hall's summary tells

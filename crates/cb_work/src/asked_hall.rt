@@ -1,7 +1,6 @@
 use crate::seen::{Seen, ask_and_see};
 use cb_base::{Fault, Seed, Shared};
-use cb_hall::{Badge, Hall};
-use cb_journal::Question;
+use cb_hall::{Badge, Hall, Question};
 use std::sync::{Mutex, Wait};
 
 /// A hall behind its lock that can be asked and lends its seed, and nothing else: who holds it can
@@ -9,10 +8,15 @@ use std::sync::{Mutex, Wait};
 ///
 /// No clause can name the hall between two calls, since others call it too. That nothing but the
 /// question reaches it is left to `ask`.
-#[derive(Drop)]
 pub(crate) struct AskedHall<R: Drop> {
     rt: R,
     hall: Shared<Mutex<Hall>>,
+}
+
+impl<R: Drop> Drop for AskedHall<R> {
+    fn drop(self) {
+        let AskedHall { rt: _, hall: _ } = self;
+    }
 }
 
 impl<R: Wait + Drop> AskedHall<R> {

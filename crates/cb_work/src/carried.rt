@@ -1,15 +1,15 @@
 use crate::traffic::{BlockPath, Brought};
 use cb_base::{Hash256, Shared};
 use cb_crew::Given;
-use cb_journal::Answer;
+use cb_hall::Answer;
 use cb_peer::Event;
-use cb_reader::Input;
+use cb_session::Input;
 use cb_trace::TraceEntry;
 use cb_wire::{Item, Message};
 
 /// What an item carries that leads to a block.
 #[derive(Clone, Copy)]
-enum Content {
+enum BlockContent {
     /// A `block` with this hash.
     Block(Hash256),
     /// A `cmpctblock` of the block with this hash.
@@ -29,7 +29,7 @@ pub(crate) struct Carried {
     pub payload: u64,
     /// The number of messages that are a `pong`: 0 or 1.
     pub pongs: u64,
-    content: Content,
+    content: BlockContent,
 }
 
 impl Carried {
@@ -52,7 +52,7 @@ impl Carried {
             messages: 0,
             payload: 0,
             pongs: 0,
-            content: Content::Other,
+            content: BlockContent::Other,
         }
     }
 }
@@ -89,15 +89,15 @@ pub(crate) fn greeting_of(given: &Given<Input>) -> Option<&Shared<Item>> {
 }
 
 /// What an input carries that leads to a block.
-fn content_of(input: &Input) -> Content {
+fn content_of(input: &Input) -> BlockContent {
     let Some(message) = message_of(input) else {
-        return Content::Other;
+        return BlockContent::Other;
     };
     match message {
-        Message::Block(block) => Content::Block(block.header.hash()),
-        Message::CmpctBlock(compact) => Content::CompactBlock(compact.header.hash()),
-        Message::BlockTxn(txs) => Content::Transactions(txs.block),
-        _ => Content::Other,
+        Message::Block(block) => BlockContent::Block(block.header.hash()),
+        Message::CmpctBlock(compact) => BlockContent::CompactBlock(compact.header.hash()),
+        Message::BlockTxn(txs) => BlockContent::Transactions(txs.block),
+        _ => BlockContent::Other,
     }
 }
 
@@ -132,16 +132,16 @@ impl Rebuilding {
     /// another `cmpctblock` came since its own.
     fn before(&self, carried: &Carried) -> u64 {
         match carried.content {
-            Content::Transactions(hash) if self.block == Some(hash) => self.payload,
-            Content::Transactions(_) => u64::MAX,
-            Content::Block(_) | Content::CompactBlock(_) | Content::Other => 0,
+            BlockContent::Transactions(hash) if self.block == Some(hash) => self.payload,
+            BlockContent::Transactions(_) => u64::MAX,
+            BlockContent::Block(_) | BlockContent::CompactBlock(_) | BlockContent::Other => 0,
         }
     }
 
     /// How a block came, if the step of this item handed one to the hall.
     fn path(&mut self, carried: &Carried, entries: &[TraceEntry]) -> Option<BlockPath> {
         match carried.content {
-            Content::Block(hash) => {
+            BlockContent::Block(hash) => {
                 let awaited = self.ends(hash);
                 let path = if awaited {
                     BlockPath::Fallback
@@ -150,20 +150,20 @@ impl Rebuilding {
                 };
                 taken(entries).then_some(path)
             }
-            Content::CompactBlock(hash) => {
+            BlockContent::CompactBlock(hash) => {
                 let taken = taken(entries);
                 self.block = if taken { None } else { Some(hash) };
                 self.payload = carried.payload;
                 taken.then_some(BlockPath::Compact)
             }
-            Content::Transactions(hash) => {
+            BlockContent::Transactions(hash) => {
                 let taken = taken(entries);
                 if taken {
                     self.ends(hash);
                 }
                 taken.then_some(BlockPath::Completed)
             }
-            Content::Other => None,
+            BlockContent::Other => None,
         }
     }
 

@@ -1,9 +1,9 @@
 ghost use Rattle.std.specs.Prelude.{◌≡◌, false, []};
 ghost use Rattle.cb_work.specs.Flags.{HasLooked};
 
-use crate::due::Told;
+use crate::due::ToldTip;
 use crate::flags::{Beats, Flags};
-use crate::traffic::{BlockPath, Brought, Totals, Traffic};
+use crate::traffic::{BlockPath, Brought, StepTraffic, Totals};
 use cb_base::Shared;
 use cb_peer_state::{CloseReason, State};
 use cb_wire::Item;
@@ -13,7 +13,6 @@ use std::sync::atomic::{AtomicBool, AtomicI64, AtomicU64, Ordering};
 /// What the threads of one connection share. A handler's thread serves the connection's
 /// work, a reader's thread queues what the peer sends, and the node sets ticks and looks at the
 /// numbers.
-#[derive(Drop)]
 pub struct ConnectionStatus {
     tick: AtomicBool,
     probe: AtomicBool,
@@ -31,7 +30,7 @@ pub struct ConnectionStatus {
     fetching: AtomicBool,
     /// Whether headers of something unknown were awaited after the latest step.
     seeks: AtomicBool,
-    /// The tip that the peer was told last, as `Told` has it.
+    /// The tip that the peer was told last, as `ToldTip` has it.
     told: AtomicU64,
     /// Whether the peer wants compact blocks unasked.
     high: AtomicBool,
@@ -59,6 +58,41 @@ pub struct ConnectionStatus {
     made: AtomicI64,
     /// The item with the peer's first `version`.
     greeting: OnceLock<Shared<Item>>,
+}
+
+impl Drop for ConnectionStatus {
+    fn drop(self) {
+        let ConnectionStatus {
+            tick: _,
+            probe: _,
+            stop: _,
+            queued: _,
+            messages: _,
+            payload: _,
+            written: _,
+            sent: _,
+            pongs: _,
+            flight: _,
+            fetching: _,
+            seeks: _,
+            told: _,
+            high: _,
+            fresh: _,
+            brought: _,
+            full: _,
+            compact: _,
+            completed: _,
+            fallback: _,
+            saved: _,
+            given: _,
+            state: _,
+            still: _,
+            starved: _,
+            is_made: _,
+            made: _,
+            greeting: _,
+        } = self;
+    }
 }
 
 impl ConnectionStatus {
@@ -193,8 +227,8 @@ impl ConnectionStatus {
     }
 
     /// What the peer was told of the tip, as of the latest step.
-    pub fn told(&self) -> Told {
-        Told {
+    pub fn told(&self) -> ToldTip {
+        ToldTip {
             tip: self.told.load(Ordering::SeqCst),
             high: self.high.load(Ordering::SeqCst),
         }
@@ -277,7 +311,7 @@ impl ConnectionStatus {
     }
 
     /// Counts what one step moved. The item's payload lies in the inbox no more.
-    fn count(&self, traffic: &Traffic) {
+    fn count(&self, traffic: &StepTraffic) {
         self.queued.fetch_sub(traffic.payload, Ordering::SeqCst);
         self.messages.fetch_add(traffic.messages, Ordering::SeqCst);
         self.payload.fetch_add(traffic.payload, Ordering::SeqCst);
@@ -328,13 +362,24 @@ impl ConnectionStatus {
 /// An atomic word tells a contract nothing of its content, since any thread may change it. So the
 /// flags keep beside it how often the tick flag and the probe flag were looked at, how often each
 /// was set, and whether the stop flag was set here.
-#[derive(Drop)]
 pub struct PeerFlags {
     status: Shared<ConnectionStatus>,
     looked: u64,
     found: u64,
     probes: u64,
     stopped: bool,
+}
+
+impl Drop for PeerFlags {
+    fn drop(self) {
+        let PeerFlags {
+            status: _,
+            looked: _,
+            found: _,
+            probes: _,
+            stopped: _,
+        } = self;
+    }
 }
 
 impl PeerFlags {
@@ -408,7 +453,7 @@ impl Flags for PeerFlags {
         self.status.keep_greeting(item);
     }
 
-    fn count_traffic(&mut self, traffic: &Traffic) {
+    fn count_traffic(&mut self, traffic: &StepTraffic) {
         self.status.count(traffic);
     }
 }

@@ -2,7 +2,7 @@
 ghost use Rattle.std.specs.Prelude.{◌≡◌, ◌++◌, ◌∷◌, ◌<◌, ℕ, List, [], All, length, nat_eq, IfOk, IsOkUnless, OnOk, if◌then◌else◌};
 ghost use Rattle.std.specs.List.{count_by};
 ghost use Rattle.cb_base.specs.declared.fault.Fault.TheVariants.{Memory};
-ghost use Rattle.cb_work.specs.declared.due.Told.{Told};
+ghost use Rattle.cb_work.specs.declared.due.ToldTip.{ToldTip};
 ghost use Rattle.cb_work.specs.Due.{due_places, is_due, is_due_as, places_where, told_by};
 
 use crate::seen::told_word;
@@ -12,7 +12,7 @@ use std::alloc::Global;
 
 /// What a connection's peer was told of the tip.
 #[derive(Clone, Copy, Debug, PartialEq, Eq)]
-pub struct Told {
+pub struct ToldTip {
     /// The tip that it was told last, as `tip_word` has it; 0 before it was told one, so before its
     /// handshake is done, and once the session is over.
     pub tip: u64,
@@ -20,12 +20,12 @@ pub struct Told {
     pub high: bool,
 }
 
-impl Told {
+impl ToldTip {
     /// What the peer of this session was told.
-    pub(crate) fn by(trace: &Trace) -> Told
+    pub(crate) fn by(trace: &Trace) -> ToldTip
         ensures { result ≡ told_by trace.now.session }
     {
-        Told {
+        ToldTip {
             tip: told_word(trace.told_tip()),
             high: trace.peer().wants_high,
         }
@@ -43,7 +43,7 @@ impl Told {
 /// those whose peers want compact blocks unasked, and then of the others, both in order.
 ///
 /// Fails only with `Fault::Memory`.
-pub fn due_places(alloc: Global, tip: u64, all: &[Told]) -> Result<Vec<usize>, Fault>
+pub fn due_places(alloc: Global, tip: u64, all: &[ToldTip]) -> Result<Vec<usize>, Fault>
     ensures places { IfOk result (λ places. places.items ≡ due_places tip all.now) }
     ensures memory { IsOkUnless result Memory }
 {
@@ -54,7 +54,7 @@ pub fn due_places(alloc: Global, tip: u64, all: &[Told]) -> Result<Vec<usize>, F
 }
 
 /// Puts the places of those that are due and want compact blocks unasked, or don't, behind others.
-fn put_places(places: &mut Vec<usize>, tip: u64, high: bool, all: &[Told]) -> Result<(), Fault>
+fn put_places(places: &mut Vec<usize>, tip: u64, high: bool, all: &[ToldTip]) -> Result<(), Fault>
     ensures places { OnOk result
         (places.new.items ≡ places.old.items ++ places_where (is_due_as tip high) 0 all.now) }
     ensures memory { IsOkUnless result Memory }
@@ -79,9 +79,9 @@ fn put_if(places: &mut Vec<usize>, place: usize, due: bool) -> Result<(), Fault>
 
 /// Each connection that is due stands among the places once, and no other does.
 pub fn each_due_stands_once()
-    ensures once { (tip : ℕ) (before after : List Told) (told : Told) →
+    ensures once { (tip : ℕ) (before after : List ToldTip) (told : ToldTip) →
         count_by (nat_eq (length before)) (due_places tip (before ++ told ∷ after))
         ≡ (if is_due tip told then 1 else 0) }
-    ensures within { (tip : ℕ) (all : List Told) →
+    ensures within { (tip : ℕ) (all : List ToldTip) →
         All (λ place. place < length all) (due_places tip all) }
 {}

@@ -1,4 +1,4 @@
-use crate::traffic::Traffic;
+use crate::traffic::StepTraffic;
 use cb_base::Shared;
 use cb_wire::Item;
 
@@ -45,7 +45,7 @@ pub trait Flags: Drop {
         ensures stopped { is_stopped self.new ≡ is_stopped self.old };
 
     /// Counts what one step moved, and notes how far the session is. No flag changes.
-    fn count_traffic(&mut self, traffic: &Traffic)
+    fn count_traffic(&mut self, traffic: &StepTraffic)
         ensures looks { (answers : List Beats) → looks self.old answers → looks self.new answers }
         ensures stopped { is_stopped self.new ≡ is_stopped self.old };
 }

@@ -2,10 +2,15 @@ ghost use Rattle.std.specs.Prelude.{◌≡◌};
 
 /// A slot's sink: what is written into it goes out by that slot's socket. The slot and the sink
 /// stay together.
-#[derive(Drop)]
 pub struct Outlet<S> {
     slot: u16,
     pub(crate) sink: S,
+}
+
+impl<S: Drop> Drop for Outlet<S> {
+    fn drop(self) {
+        let Outlet { slot: _, sink: _ } = self;
+    }
 }
 
 impl<S> Outlet<S> {

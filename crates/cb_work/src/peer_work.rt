@@ -3,8 +3,8 @@ ghost use Rattle.cb_base.specs.declared.fault.Fault.TheVariants.{Memory};
 ghost use Rattle.cb_crew.specs.declared.work.Given.{Given};
 ghost use Rattle.cb_crew.specs.declared.work.Given.TheVariants as given;
 ghost use Rattle.cb_crew.specs.Work.{IsEnd, IsFresh};
-ghost use Rattle.cb_reader.specs.declared.input.Input.{Input};
-ghost use Rattle.cb_reader.specs.declared.input.Input.TheVariants as inputs;
+ghost use Rattle.cb_session.specs.declared.input.Input.{Input};
+ghost use Rattle.cb_session.specs.declared.input.Input.TheVariants as inputs;
 ghost use Rattle.cb_peer_state.specs.declared.event.Event.{Event};
 ghost use Rattle.cb_peer_state.specs.Event.{begins, ends_at_once, is_beat, kind_of};
 ghost use Rattle.cb_peer_state.specs.State.{is_closed};
@@ -14,18 +14,17 @@ ghost use Rattle.cb_work.specs.declared.flags.Beats.{Beats};
 ghost use Rattle.cb_work.specs.PeerWork.{GaveBeats, HoldsNothing, IsAtTime, IsPrimed, IsSamePeer, Serves, ServesNext, ServesOn, WasGiven, WasTicked, is_over, label_of};
 
 use crate::carried::{Carried, Rebuilding, greeting_of};
-use crate::due::Told;
+use crate::due::ToldTip;
 use crate::flags::{Beats, Flags};
 use crate::outlet::Outlet;
-use crate::traffic::Traffic;
+use crate::traffic::StepTraffic;
 use cb_base::Fault;
 use cb_crew::{Given, Work};
 use cb_hall::Badge;
 use cb_peer::{Event, Settings};
-use cb_reader::Input;
-use cb_session::{begin_by, lose_by};
+use cb_peer_state::{MessageSink, Outgoing};
+use cb_session::{Input, begin_by, lose_by};
 use cb_state::Connection;
-use cb_talk::{MessageSink, Outgoing};
 use cb_trace::{Oracle, Trace};
 use std::alloc::Global;
 use std::marker::Model;
@@ -39,7 +38,6 @@ use std::sync::Wait;
 /// A work is made before its connection is. The messages that its session opens with are held back
 /// until the first tick that is due or the first item, and go out before its first question. Its
 /// `version` tells the time at which the connection is made, if the flags tell that by then.
-#[derive(Drop)]
 pub struct PeerWork<S: MessageSink + Drop, H: Oracle + Drop, F: Flags> {
     alloc: Global,
     trace: Trace,
@@ -65,6 +63,23 @@ impl<S: MessageSink + Drop, H: Oracle + Drop, F: Flags> Model for PeerWork<S, H,
     ghost invariant = { λ work. IsPeerWork H.told H.refused S.contents S.has_failed F.is_stopped
         (work_state work.trace work.badge work.outlet.slot work.outlet.sink work.hall work.flags
         work.written work.unsent.items) };
+}
+
+impl<S: MessageSink + Drop, H: Oracle + Drop, F: Flags + Drop> Drop for PeerWork<S, H, F> {
+    fn drop(self) {
+        let PeerWork {
+            alloc: _,
+            trace: _,
+            badge: _,
+            outlet: _,
+            hall: _,
+            flags: _,
+            written: _,
+            unsent: _,
+            untold: _,
+            rebuilding: _,
+        } = self;
+    }
 }
 
 /// A work that couldn't be made. What it was to be made of comes back.
@@ -389,7 +404,7 @@ impl<S: MessageSink + Drop, H: Oracle + Drop, F: Flags> PeerWork<S, H, F> {
         ensures serves { ServesOn H.told H.refused S.contents S.has_failed self.old self.new }
     {
         let block = self.rebuilding.brought(&carried, self.trace.entries());
-        self.flags.count_traffic(&Traffic {
+        self.flags.count_traffic(&StepTraffic {
             messages: carried.messages,
             payload: carried.payload,
             written: self.written.saturating_sub(written),
@@ -398,7 +413,7 @@ impl<S: MessageSink + Drop, H: Oracle + Drop, F: Flags> PeerWork<S, H, F> {
             flight: self.trace.in_flight() as u64,
             fetching: self.trace.is_fetching(),
             seeks: self.trace.seeks(),
-            told: Told::by(&self.trace),
+            told: ToldTip::by(&self.trace),
             block,
             state: self.trace.state(),
         });
@@ -483,7 +498,7 @@ fn stop_if_over<F: Flags>(trace: &Trace, flags: &mut F)
 {
     let state = trace.state();
     if state.is_closed() {
-        flags.count_traffic(&Traffic::nothing(state));
+        flags.count_traffic(&StepTraffic::nothing(state));
         flags.stop();
     }
 }

@@ -7,8 +7,7 @@ ghost use Rattle.cb_peer_state.specs.Questions.{fits};
 ghost use Rattle.cb_work.specs.Seen.{IsChange, IsTipChange, tip_word, told_word};
 
 use cb_base::{Fault, Hash256};
-use cb_hall::{Badge, Hall};
-use cb_journal::{Answer, Local, Question};
+use cb_hall::{Answer, Badge, Hall, Local, Question};
 use cb_trace::Oracle;
 
 /// What the hall answered to a call, and what the call did to the tip.

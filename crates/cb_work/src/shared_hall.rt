@@ -2,8 +2,7 @@ use crate::asked_hall::AskedHall;
 use crate::connection_status::ConnectionStatus;
 use crate::seen::tip_word;
 use cb_base::{Fault, Seed, Shared};
-use cb_hall::{Badge, Hall};
-use cb_journal::{Answer, Question};
+use cb_hall::{Answer, Badge, Hall, Question};
 use cb_trace::Oracle;
 use std::sync::{Mutex, Wait};
 
@@ -12,10 +11,15 @@ use std::sync::{Mutex, Wait};
 ///
 /// No clause can name the hall between two calls, since others call it too. So what is told here
 /// speaks of the badge alone.
-#[derive(Drop)]
 pub struct SharedHall<R: Drop> {
     hall: AskedHall<R>,
     status: Shared<ConnectionStatus>,
+}
+
+impl<R: Drop> Drop for SharedHall<R> {
+    fn drop(self) {
+        let SharedHall { hall: _, status: _ } = self;
+    }
 }
 
 impl<R: Wait + Drop> SharedHall<R> {

@@ -1,4 +1,4 @@
-use crate::due::Told;
+use crate::due::ToldTip;
 use cb_peer_state::State;
 
 /// How a block came that was handed to the hall.
@@ -27,7 +27,7 @@ pub struct Brought {
 
 /// What one step of a connection moved, and how far its session is then.
 #[derive(Clone, Copy, PartialEq, Eq)]
-pub struct Traffic {
+pub struct StepTraffic {
     /// The number of messages read: 0 or 1.
     pub messages: u64,
     /// The number of payload bytes of the item, which has left the inbox.
@@ -45,18 +45,18 @@ pub struct Traffic {
     /// Whether headers of something unknown are awaited after the step.
     pub seeks: bool,
     /// What the peer was told of the tip, as of the end of the step.
-    pub told: Told,
+    pub told: ToldTip,
     /// The block that the step handed to the hall, if it did.
     pub block: Option<Brought>,
     /// How far the session is after the step.
     pub state: State,
 }
 
-impl Traffic {
+impl StepTraffic {
     /// Nothing was moved by a session that is so far. Nothing is in flight, wanted or awaited, and
     /// its peer was told nothing.
-    pub fn nothing(state: State) -> Traffic {
-        Traffic {
+    pub fn nothing(state: State) -> StepTraffic {
+        StepTraffic {
             messages: 0,
             payload: 0,
             written: 0,
@@ -65,7 +65,7 @@ impl Traffic {
             flight: 0,
             fetching: false,
             seeks: false,
-            told: Told {
+            told: ToldTip {
                 tip: 0,
                 high: false,
             },

@@ -3,7 +3,7 @@
 
 use cb_base::{In, Out, Seed, Shared};
 use cb_command::{
-    Progress, names_node, refuse_for_memory, refuse_foreign, refuse_unseeded, seeded_command,
+    Progress, command, names_node, refuse_for_memory, refuse_foreign, refuse_unseeded,
     with_password,
 };
 use cb_pipes::{Patience, PipeWriter, Pipes};
@@ -79,7 +79,7 @@ fn progress_on(stderr: Stderr) -> Progress<Out<Stderr>> {
     }
 }
 
-/// Passes the arguments, standard input, standard output and standard error to `seeded_command`,
+/// Passes the arguments, standard input, standard output and standard error to `command`,
 /// with a seed of this run. If a node is to run, threads write to standard output and standard
 /// error.
 fn main(rt: HostRuntime) -> ExitCode {
@@ -119,7 +119,7 @@ fn main(rt: HostRuntime) -> ExitCode {
     let mut writer = writer_to(rt, alloc, rt.stdout(), of_output, of_answers, runs_node);
     let mut errors = writer_to(rt, alloc, rt.stderr(), of_errors, of_messages, runs_node);
     let mut progress = progress_on(rt.stderr());
-    let status = seeded_command(
+    let status = command(
         rt,
         alloc,
         seed,

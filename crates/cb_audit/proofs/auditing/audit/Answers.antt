@@ -1,5 +1,5 @@
 use Rattle.std.proofs.Common.{◌∙◌, ap}
-use Rattle.cb_journal.specs.Replica.{ReplicaState}
+use Rattle.cb_hall.specs.Replica.{ReplicaState}
 use Rattle.cb_audit.proofs.CoveredAnswers.{covers_all}
 use Rattle.cb_audit.proofs.auditing.audit.Goals as goal
 

@@ -1,7 +1,7 @@
 use Rattle.std.proofs.Common.{◌≡◌, ◌∙◌, ◌≤◌, ℕ, [], ap, subst}
 use Rattle.std.proofs.lemmas.Result.{err_from_is_err_and}
-use Rattle.cb_journal.specs.Connections.{AreCounted, Slots}
-use Rattle.cb_journal.specs.Replica.{ReplicaState}
+use Rattle.cb_hall.specs.Connections.{AreCounted, Slots}
+use Rattle.cb_hall.specs.Replica.{ReplicaState}
 use Rattle.cb_audit.specs.Comparing.{AreFew, Seen}
 use Rattle.cb_audit.specs.Heard.{IsHeard, IsSplit}
 use Rattle.cb_audit.proofs.Journals.{answered, so_far_end, so_far_few, so_far_first, so_far_fit, so_far_next}

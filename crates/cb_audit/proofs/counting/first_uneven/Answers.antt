@@ -1,6 +1,6 @@
 use Rattle.std.proofs.Common.{◌≡◌, ◌∙◌, ap, subst}
-use Rattle.cb_journal.specs.Connections.{Slots, most_peers}
-use Rattle.cb_journal.specs.Replica.{ReplicaState}
+use Rattle.cb_hall.specs.Connections.{Slots, most_peers}
+use Rattle.cb_hall.specs.Replica.{ReplicaState}
 use Rattle.cb_audit.specs.Counting.{HasTrace, IsFoundAmong, IsOfPeers}
 use Rattle.cb_audit.proofs.Numbers.{as_many, first_of_all, of_all}
 use Rattle.cb_audit.proofs.counting.first_uneven.Goals as goal

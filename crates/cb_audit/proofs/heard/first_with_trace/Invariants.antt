@@ -1,4 +1,4 @@
-use Rattle.cb_journal.specs.Connections.{Slots}
+use Rattle.cb_hall.specs.Connections.{Slots}
 use Rattle.cb_audit.specs.Comparing.{AreFew, Seen}
 use Rattle.cb_audit.specs.Heard.{ArePlaced}
 use Rattle.cb_audit.proofs.Accounts.{AgreeUpTo}

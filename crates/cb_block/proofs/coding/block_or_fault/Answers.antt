@@ -1,5 +1,5 @@
 use Rattle.std.proofs.lemmas.Result.{err_from_is_err_and}
-use Rattle.cb_tx.proofs.Taking.{memory_told}
+use Rattle.cb_block.proofs.TakingTxs.{memory_told}
 use Rattle.cb_block.proofs.Taking.{header_is_unpaid}
 use Rattle.cb_block.proofs.coding.block_or_fault.Goals as goal
 

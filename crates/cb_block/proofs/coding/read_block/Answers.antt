@@ -2,7 +2,7 @@
 use Rattle.std.proofs.Common.{◌≡◌, Ok, Err, arith, rules}
 use Rattle.std.proofs.lemmas.Grind.{common_steps}
 use Rattle.cb_base.specs.Reading.{ReadsInMemory}
-use Rattle.cb_block.specs.Reading.{block_at}
+use Rattle.cb_block.specs.BlockReading.{block_at}
 use Rattle.cb_block.proofs.Headers.{block_laws_at}
 use Rattle.cb_block.proofs.coding.read_block.Goals as goal
 

@@ -2,7 +2,7 @@
 use Rattle.std.proofs.Common.{◌≡◌, Ok, Err, arith, rules}
 use Rattle.std.proofs.lemmas.Grind.{common_steps}
 use Rattle.cb_base.specs.Reading.{Reads}
-use Rattle.cb_block.specs.Reading.{header_at}
+use Rattle.cb_block.specs.BlockReading.{header_at}
 use Rattle.cb_block.proofs.Headers.{header_laws_at}
 use Rattle.cb_block.proofs.header.read_header.Goals as goal
 

@@ -1,6 +1,6 @@
 use Rattle.std.proofs.Common.{◌≡◌, ◌∙◌, ◌∷◌, [], map, ap, arith}
 use Rattle.std.proofs.lemmas.Grind.{common_steps}
-use Rattle.cb_tx.specs.Text.{tx_text}
+use Rattle.cb_block.specs.TxText.{tx_text}
 use Rattle.cb_block.specs.Genesis.{genesis_tx}
 use Rattle.cb_block.specs.Soundness.{names}
 use Rattle.cb_block.proofs.Beginning.{genesis_sound}

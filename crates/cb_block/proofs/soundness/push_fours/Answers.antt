@@ -2,7 +2,7 @@
 use Rattle.std.proofs.Common.{◌≡◌, ◌+◌, ◌*◌, ◌≤◌, ◌++◌, List, [], ◌∷◌, length, ap, subst, ◌∙◌, arith}
 use Rattle.cb_base.specs.declared.hash.Hash256.{Hash256}
 use Rattle.cb_base.specs.DoubleHash.{double_hash}
-use Rattle.cb_tx.specs.Text.{IsTx, tx_text}
+use Rattle.cb_block.specs.TxText.{IsTx, tx_text}
 use Rattle.cb_block.proofs.Texts.{four_fit, names_four}
 use Rattle.cb_block.proofs.soundness.push_fours.Goals as goal
 

@@ -1,5 +1,5 @@
 use Rattle.std.proofs.Common.{subst, All}
-use Rattle.cb_tx.specs.Text.{IsTx}
+use Rattle.cb_block.specs.TxText.{IsTx}
 use Rattle.cb_block.specs.Blocks.{IsSoundBlock, texts}
 use Rattle.cb_block.proofs.Only.{only_one}
 use Rattle.cb_block.proofs.Texts.{only_txs}

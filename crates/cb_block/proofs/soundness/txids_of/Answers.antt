@@ -2,7 +2,7 @@
 use Rattle.std.proofs.Common.{◌≡◌, ◌++◌, ◌∷◌, [], ◌∙◌, ap, subst}
 use Rattle.std.proofs.lemmas.List.Elements.{All-more}
 use Rattle.cb_base.specs.DoubleHash.{double_hash}
-use Rattle.cb_tx.specs.Text.{IsTx, tx_text}
+use Rattle.cb_block.specs.TxText.{IsTx, tx_text}
 use Rattle.cb_block.proofs.Texts.{names_more}
 use Rattle.cb_block.proofs.soundness.txids_of.Goals as goal
 

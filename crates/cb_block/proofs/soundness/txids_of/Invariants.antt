@@ -1,5 +1,5 @@
 use Rattle.std.proofs.Common.{◌≡◌, map, take, All}
-use Rattle.cb_tx.specs.Text.{IsTx, tx_text}
+use Rattle.cb_block.specs.TxText.{IsTx, tx_text}
 use Rattle.cb_block.specs.Soundness.{names}
 use Rattle.cb_block.proofs.soundness.txids_of.Given as goal
 

@@ -1,5 +1,5 @@
 use Rattle.std.proofs.Common.{◌≡◌, ℕ, Result, ap, subst}
-use Rattle.cb_run.specs.declared.ending.Halt.{Halt}
+use Rattle.cb_control.specs.declared.ending.Halt.{Halt}
 use Rattle.cb_command.proofs.Telling.{Settles, tells_peer}
 use Rattle.cb_command.proofs.commanding.answer_peer.Goals as goal
 

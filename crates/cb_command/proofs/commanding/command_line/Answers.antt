@@ -1,7 +1,7 @@
 use Rattle.std.proofs.Common.{◌≡◌, ap, ap₂, ◌∙◌}
 use Rattle.clap.specs.Words.{App, app_of, with_subcommand}
 use Rattle.clap.proofs.SimpleLemmas.{plain_fields}
-use Rattle.cb_net_words.specs.NetLine.{net_line}
+use Rattle.cb_net_plan.specs.NetLine.{net_line}
 use Rattle.cb_command.proofs.Entering.{if_ok_more}
 use Rattle.cb_command.proofs.commanding.command_line.Goals as goal
 

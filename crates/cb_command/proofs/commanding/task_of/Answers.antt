@@ -5,8 +5,8 @@ use Rattle.clap.specs.Words.{App, HasKind, Row, Text, app_of, fault_of, is_simpl
 use Rattle.cb_command.specs.NodeWords.{IsNodeOrders, node_rows}
 use Rattle.cb_command.specs.Words.{net_asked, program, task_named}
 use Rattle.cb_net_plan.specs.declared.settings.NetSettings.{NetSettings}
-use Rattle.cb_net_words.specs.NetWords.{asked_settings, net_rows}
-use Rattle.cb_net_words.specs.declared.bad_net.BadNet.{BadNet}
+use Rattle.cb_net_plan.specs.NetWords.{asked_settings, net_rows}
+use Rattle.cb_net_plan.specs.declared.bad_net.BadNet.{BadNet}
 use Rattle.cb_command.proofs.Entering.{name_of_rows, program_is_free, program_is_simple}
 use Rattle.cb_command.proofs.commanding.task_of.Goals as goal
 

@@ -1,5 +1,5 @@
 use Rattle.std.proofs.Common.{arith, sym}
-use Rattle.cb_control.proofs.Lines.{one_more_line}
+use Rattle.cb_control.proofs.LineLemmas.{one_more_line}
 use Rattle.cb_control.specs.ReplyText.{peer_text}
 use Rattle.cb_control.proofs.operator_text.print_peers.Goals as goal
 

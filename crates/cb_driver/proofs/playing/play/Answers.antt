@@ -1,7 +1,7 @@
 use Rattle.std.proofs.Common.{rules, List, ℕ, subst, ◌∙◌}
 use Rattle.cb_control.specs.ScriptLine.{ReadsScript}
 use Rattle.std.specs.Io.KnownBytes.{prepend_known}
-use Rattle.cb_run.proofs.Counting.{next-more}
+use Rattle.cb_control.proofs.Counting.{next-more}
 use Rattle.cb_driver.proofs.Going.{going-on, going-stop}
 use Rattle.cb_driver.proofs.playing.play.Goals as goal
 

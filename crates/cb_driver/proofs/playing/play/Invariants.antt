@@ -1,6 +1,6 @@
 use Rattle.std.proofs.Common.{◌≡◌, vec_len}
 use Rattle.std.specs.Io.KnownBytes.{prepend_known}
-use Rattle.cb_run.proofs.Counting.{IsNext}
+use Rattle.cb_control.proofs.Counting.{IsNext}
 use Rattle.cb_driver.proofs.Going.{GoingKnown}
 use Rattle.cb_driver.proofs.playing.play.Given as goal
 

@@ -1,6 +1,6 @@
 use Rattle.std.proofs.Common.{◌≡◌, ◌∙◌, None, ap, length, rules, subst, sym}
 use Rattle.cb_block.specs.declared.block.Block.{Block}
-use Rattle.cb_block.specs.Text.{header_text}
+use Rattle.cb_block.specs.BlockText.{header_text}
 use Rattle.cb_chain.specs.Entries.{Tree}
 use Rattle.cb_hall.proofs.NextTip.{IsTipOf, Knows, fares}
 use Rattle.cb_hall.proofs.mined.mined_fares.Goals as goal

@@ -2,7 +2,7 @@ use Rattle.std.proofs.Common.{◌≡◌, ◌∙◌, sym, ap, inl, inr, arith, No
 use Rattle.std.specs.Int.{w64}
 use Rattle.std.proofs.lemmas.Int.{to_z-of_z}
 use Rattle.std.specs.FinMap as map
-use Rattle.cb_tx.specs.declared.tx.OutPoint.{OutPoint}
+use Rattle.cb_block.specs.declared.tx.OutPoint.{OutPoint}
 use Rattle.cb_ledger.specs.Spend.{make_outputs}
 use Rattle.cb_ledger.specs.Undo.{changed}
 use Rattle.cb_ledger.proofs.FirstTouch.{output_touched}

@@ -3,7 +3,7 @@ use Rattle.std.specs.Int.{w128}
 use Rattle.std.proofs.lemmas.Int.{ints, to_z-of_z}
 use Rattle.std.proofs.lemmas.Result.{err_from_is_err_and}
 use Rattle.cb_base.specs.declared.fault.Fault.TheVariants.{Memory}
-use Rattle.cb_tx.specs.Rules.{value_sum}
+use Rattle.cb_block.specs.TxRules.{value_sum}
 use Rattle.cb_ledger.specs.Spend.{make_outputs, spend_tx}
 use Rattle.cb_ledger.specs.Undo.{changed}
 use Rattle.cb_ledger.proofs.FirstTouch.{touches_made, touches_minted, touches_spent}

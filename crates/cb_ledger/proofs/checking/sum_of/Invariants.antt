@@ -1,5 +1,5 @@
 use Rattle.std.proofs.Common.{◌≡◌, ◌*◌, ◌^◌, take, pos, neg_ℤ, ◌≤ℤ◌}
-use Rattle.cb_tx.specs.Rules.{value_sum}
+use Rattle.cb_block.specs.TxRules.{value_sum}
 use Rattle.cb_ledger.proofs.checking.sum_of.Given as goal
 
 -- each value is one of 64 bits

@@ -1,5 +1,5 @@
 use Rattle.std.proofs.Common.{Some, subst, sym}
-use Rattle.cb_journal.specs.Journal.{JournalState}
+use Rattle.cb_hall.specs.Journal.{JournalState}
 use Rattle.cb_net_node.specs.Nodes.{TakesSome}
 use Rattle.cb_net_node.proofs.Passing.{on_err_of}
 use Rattle.cb_net_node.proofs.Taking.{took_first, took_whole}

@@ -1,6 +1,6 @@
 use Rattle.std.proofs.Common.{List, ◌++◌, take}
-use Rattle.cb_tx.specs.declared.tx.Tx.{Tx}
-use Rattle.cb_journal.specs.Journal.{JournalState}
+use Rattle.cb_block.specs.declared.tx.Tx.{Tx}
+use Rattle.cb_hall.specs.Journal.{JournalState}
 use Rattle.cb_net_node.specs.Nodes.{TakesAll}
 use Rattle.cb_net_node.proofs.node.take_all.Given as goal
 

@@ -1,5 +1,5 @@
 use Rattle.std.proofs.Common.{◌≡◌, ◌+◌, ◌≤◌, length, vec_capacity, ◌∙◌, arith}
-use Rattle.cb_journal.specs.Connections.{most_peers}
+use Rattle.cb_hall.specs.Connections.{most_peers}
 use Rattle.cb_node.proofs.Slots.{count_of}
 use Rattle.cb_node.proofs.starting.man.Goals as goal
 

@@ -3,7 +3,7 @@ use Rattle.cb_node_process.proofs.Runs.{opened, opened_still, reply_failed, repl
 use Rattle.cb_node_process.proofs.running.serve.Goals as goal
 
 pub loop-init : goal.loop-init
-loop-init g c = opened (true ≡ true) (g.W.Sink.contents c.args.writer.now) (g.W.Sink.contents c.write_reply.new.writer) c.args.process.now.address c.in_ok-write_reply.ensures.told
+loop-init g c = opened (true ≡ true) (g.W.Sink.contents c.args.writer.now) (g.W.Sink.contents c.write_reply.new.writer) _ c.in_ok-write_reply.ensures.told
 
 pub loop-preserved-in_ok-write_reply-in-Reply : goal.loop-preserved-in_ok-write_reply-in-Reply
 loop-preserved-in_ok-write_reply-in-Reply g c =

@@ -1,5 +1,5 @@
 use Rattle.std.proofs.Common.{rules}
-use Rattle.cb_talk.specs.Serving.{excerpt_told}
+use Rattle.cb_peer_state.specs.Serving.{excerpt_told}
 use Rattle.cb_peer.proofs.Lights.{excerpt_light, none_made}
 use Rattle.cb_peer.proofs.compact_replying.answer_places.Goals as goal
 

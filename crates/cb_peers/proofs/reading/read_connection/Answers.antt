@@ -1,6 +1,6 @@
 use Rattle.std.proofs.Common.{[], refl, sym, ap, subst, ◌∙◌}
 use Rattle.std.proofs.lemmas.List.{append-nil}
-use Rattle.cb_inbox.specs.Queued.{has_ended}
+use Rattle.cb_crew.specs.Queued.{has_ended}
 use Rattle.cb_service.specs.Service.{HasEnded, queued_by}
 use Rattle.cb_peers.specs.Seat.{is_ended, marks_of}
 use Rattle.cb_peers.proofs.Leaving.{left_by, left_live}

@@ -1,8 +1,8 @@
 use Rattle.std.proofs.Common.{◌≡◌, ◌∙◌, List, inl, inr, subst, sym}
 use Rattle.std.specs.FinMap as finite
 use Rattle.std.proofs.lemmas.List.{take_all}
-use Rattle.cb_tx.specs.declared.tx.OutPoint.{OutPoint}
-use Rattle.cb_tx.specs.declared.tx.TxIn.{TxIn}
+use Rattle.cb_block.specs.declared.tx.OutPoint.{OutPoint}
+use Rattle.cb_block.specs.declared.tx.TxIn.{TxIn}
 use Rattle.cb_ledger.specs.Touched.{IsNamed}
 use Rattle.cb_ledger.specs.Undo.{changed, changes_of}
 use Rattle.cb_pool.proofs.Untouched.{changed_at, kept_at, named_at, named_more}

@@ -1,6 +1,6 @@
 use Rattle.std.proofs.Common.{◌≡◌, take}
 use Rattle.std.specs.FinMap as finite
-use Rattle.cb_tx.specs.declared.tx.OutPoint.{OutPoint}
+use Rattle.cb_block.specs.declared.tx.OutPoint.{OutPoint}
 use Rattle.cb_ledger.specs.Touched.{IsNamed}
 use Rattle.cb_ledger.specs.Undo.{changed, changes_of}
 use Rattle.cb_ledger.specs.Unspent.{Unspent}

@@ -2,7 +2,7 @@ use Rattle.std.proofs.Common.{◌≡◌, ◌∙◌, ℕ, arith, inl, inr, subst,
 use Rattle.std.specs.Prelude.{nat_lt}
 use Rattle.std.specs.FinMap as finite
 use Rattle.std.proofs.lemmas.Bool.{cases_Bool, ltb-true, ltb-false}
-use Rattle.cb_tx.specs.declared.tx.OutPoint.{OutPoint}
+use Rattle.cb_block.specs.declared.tx.OutPoint.{OutPoint}
 use Rattle.cb_ledger.specs.Undo.{changed, changes_of}
 use Rattle.cb_pool.specs.Leaving.{IsChanged}
 use Rattle.cb_pool.proofs.Untouched.{changed_at, kept_at}

@@ -1,5 +1,5 @@
 use Rattle.std.proofs.Common.{◌≡◌, ◌<◌, ◌≤◌, ◌^◌, List, inr, length, subst, sym}
-use Rattle.cb_tx.specs.declared.tx.TxOut.{TxOut}
+use Rattle.cb_block.specs.declared.tx.TxOut.{TxOut}
 use Rattle.cb_pool.proofs.apart.keeps.Goals as goal
 
 pub returns-then-keep_inputs-clause-seen : goal.returns-then-keep_inputs-clause-seen

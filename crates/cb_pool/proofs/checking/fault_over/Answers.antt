@@ -3,7 +3,7 @@ use Rattle.std.specs.Int.{w128}
 use Rattle.std.proofs.lemmas.Int.{ints, to_z-of_z}
 use Rattle.std.proofs.lemmas.Bool.{cases_Bool}
 use Rattle.cb_base.specs.declared.fault.Fault.TheVariants.{Remade}
-use Rattle.cb_tx.specs.Rules.{value_sum}
+use Rattle.cb_block.specs.TxRules.{value_sum}
 use Rattle.cb_base.specs.declared.fault.TxRule.TheVariants.{RepeatedInput}
 use Rattle.cb_ledger.specs.Undo.{changed, changes_of}
 use Rattle.cb_ledger.proofs.Lengths.{few_outputs}

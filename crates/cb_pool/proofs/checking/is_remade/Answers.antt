@@ -1,6 +1,6 @@
 use Rattle.std.proofs.Common.{◌≡◌, ◌∙◌, ap, sym, subst, refl, ℕ, None, is_some, true, arith}
 use Rattle.std.specs.FinMap as finite
-use Rattle.cb_tx.specs.declared.tx.OutPoint.{OutPoint}
+use Rattle.cb_block.specs.declared.tx.OutPoint.{OutPoint}
 use Rattle.cb_ledger.specs.Spend.{make_outputs}
 use Rattle.cb_ledger.specs.Undo.{changed, changes_of}
 use Rattle.std.proofs.lemmas.Bool.{false≢true}

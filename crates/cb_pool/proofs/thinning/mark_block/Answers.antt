@@ -3,11 +3,11 @@ use Rattle.std.proofs.lemmas.List.{take_all, take_more}
 use Rattle.cb_base.proofs.Fields.{ok_is}
 use Rattle.cb_base.specs.declared.hash.Hash256.{Hash256}
 use Rattle.cb_block.specs.declared.block.Block.{Block}
-use Rattle.cb_tx.specs.declared.tx.Tx.{Tx}
+use Rattle.cb_block.specs.declared.tx.Tx.{Tx}
 use Rattle.cb_ledger.proofs.Txs.{name_at}
 use Rattle.cb_ledger.specs.Spend.{spend, spend_tx}
 use Rattle.cb_ledger.specs.Unspent.{Unspent}
-use Rattle.cb_pool.specs.Rules.{txid_of}
+use Rattle.cb_block.specs.Txid.{txid_of}
 use Rattle.cb_pool.specs.Staying.{Tells}
 use Rattle.cb_pool.proofs.Thinned.{block_more, block_none, block_all}
 use Rattle.cb_pool.proofs.thinning.mark_block.Goals as goal

@@ -2,8 +2,8 @@ use Rattle.std.proofs.Common.{◌≡◌, ◌∙◌, ap, arith, length, None, Opt
 use Rattle.cb_ledger.specs.Undo.{changed, changes_of}
 use Rattle.cb_ledger.proofs.Changes.{changed_same}
 use Rattle.cb_ledger.proofs.Lengths.{few_outputs}
-use Rattle.cb_tx.specs.declared.tx.Tx.{Tx}
-use Rattle.cb_pool.specs.declared.marks.Mark.{Mark}
+use Rattle.cb_block.specs.declared.tx.Tx.{Tx}
+use Rattle.cb_pool.specs.declared.marks.OutputMark.{OutputMark}
 use Rattle.cb_pool.specs.Leaving.{after_tx, with_outputs}
 use Rattle.cb_pool.proofs.Marking.{at_touched}
 use Rattle.cb_pool.proofs.Spent.{left_is}
@@ -15,7 +15,7 @@ returns-then-pass-clause-covers c = λ kept so_far.
     let tx = c.args.tx.now in
     let ins : c.as_slice-inputs.result.now ≡ tx.inputs = c.as_slice-inputs.ensures ∙ ap (λ t. t.inputs) (c.deref.ensures ∙ c.tx.ensures.same) in
     covers_passed c.args.marks.now c.args.coins.now.entries kept tx
-    (at_touched (λ (m : Option Mark). m ≡ None) c.args.marks.now tx c.txid-txid.result c.as_slice-inputs.result.now refl ins c.txid-txid.ensures (c.pass.ensures.inputs c.if-pass.true) (c.pass.ensures.outputs c.if-pass.true)) so_far
+    (at_touched (λ (m : Option OutputMark). m ≡ None) c.args.marks.now tx c.txid-txid.result c.as_slice-inputs.result.now refl ins c.txid-txid.ensures (c.pass.ensures.inputs c.if-pass.true) (c.pass.ensures.outputs c.if-pass.true)) so_far
 
 pub make_outputs-requires-clause-few : goal.make_outputs-requires-clause-few
 make_outputs-requires-clause-few c =

@@ -1,5 +1,5 @@
 use Rattle.std.proofs.Common.{◌≡◌, ◌∙◌, ap, false, sym, true}
-use Rattle.cb_pool.specs.Rules.{txid_of}
+use Rattle.cb_block.specs.Txid.{txid_of}
 use Rattle.cb_pool.specs.Staying.{is_gone}
 use Rattle.cb_pool.proofs.Thinned.{noted_gone, noted_stays}
 use Rattle.cb_pool.proofs.thinning.note_pooled.Goals as goal

@@ -1,6 +1,6 @@
 use Rattle.std.proofs.Common.{◌≡◌, ◌∙◌, ◌∷◌, ℤ, None, Option, Some, List, ap, is_some, subst, sym, true}
 use Rattle.std.specs.Map.{lookup}
-use Rattle.cb_tx.specs.declared.tx.OutPoint.{OutPoint}
+use Rattle.cb_block.specs.declared.tx.OutPoint.{OutPoint}
 use Rattle.cb_pool.specs.Staying.{same_point}
 use Rattle.cb_pool.proofs.Thinner.{Putting, ok_there, put_all, put_there, putting_more}
 use Rattle.cb_pool.proofs.thinning.put_changes.Goals as goal

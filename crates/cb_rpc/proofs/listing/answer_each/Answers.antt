@@ -16,7 +16,7 @@ returns g c =
     IfOk-weaker c.close.result _ _
     (λ response closed. (
       tokens,
-      subst (λ n. AreAdded (g.N.Node.answers c.args.node.now) requests n tokens) whole c.loop-place.invariant.added,
+      subst (λ n. AreAdded (g.N.CallHandler.answers c.args.node.now) requests n tokens) whole c.loop-place.invariant.added,
       subst (λ some. IsClosed some tokens response) told closed,
     ))
     c.close.ensures
@@ -27,7 +27,7 @@ loop-place-preserved g c =
     let empty = nat_eq (size_of requests) 0 in
     let place = c.loop-place.place in
     record {
-      added = added_next (g.N.Node.answers c.args.node.now) requests place c.loop-place.writer.tokens c.put_at.new.writer.tokens c.loop-place.invariant.added c.in_ok-put_at.ensures.tokens;
+      added = added_next (g.N.CallHandler.answers c.args.node.now) requests place c.loop-place.writer.tokens c.put_at.new.writer.tokens c.loop-place.invariant.added c.in_ok-put_at.ensures.tokens;
       told = elim c.if-branch.branch [
         | then-branch w ↦ w.told-is ∙ told_here empty requests place (sym c.in_ok-put_at.ensures.told ∙ w.if-branch.true)
         | else-branch w ↦ w.told-is ∙ told_before empty c.loop-place.told requests place (sym c.in_ok-put_at.ensures.told ∙ w.if-branch.false) c.loop-place.invariant.told

@@ -8,7 +8,7 @@ use Rattle.cb_rpc.proofs.listing.answer_each.Given as goal
 abbrev pub invariant-loop-place : goal.invariant-loop-place
 invariant-loop-place g l =
     record {
-      added : AreAdded (g.N.Node.answers l.node) (value_view l.requests) l.place l.writer.tokens;
+      added : AreAdded (g.N.CallHandler.answers l.node) (value_view l.requests) l.place l.writer.tokens;
       told : l.told ≡ (nat_eq (size_of (value_view l.requests)) 0 || has_told l.place (value_view l.requests));
       before : l.writer.before ≡ [];
     }

@@ -23,17 +23,13 @@ returns-clause-served g c =
     let opened = c.send.ensures.accounts from [] [] [] c.args.hall.now c.args.badge.now
     (rw (c.new-conversation.ensures.trace, c.new-conversation.ensures.writer, c.new-conversation.ensures.written)
     (underway_nil g.H.Oracle.told g.H.Oracle.refused from _ [] _ false (record { lost = false; accounts = first.accounts }))) (λ _. refl) (rw c.new-conversation.ensures.writer (λ h. h)) in
+    let heard = c.hear_all-read.new.self.conversation in
     let served = c.hear_all-read.ensures.serves from
     (record {
       sent = rw (c.send.ensures.hall, c.send.ensures.badge, c.new-conversation.ensures.hall, c.new-conversation.ensures.badge) opened;
       answered = first_free c.in_ok-trace.trace _ c.in_ok-trace.ensures.history (λ h. c.send.ensures.kept h ∙ c.new-conversation.ensures.trace);
     }) in
-    serves_at g.H.Oracle.told g.H.Oracle.refused from (g.R.Source.remaining c.new-reading.result.reader.now) _ (g.R.Source.remaining c.hear_all-read.new.reading.reader.now) _ (g.R.Source.has_failed c.hear_all-read.new.reading.reader.now) _
-    c.hear_all-read.new.conversation.trace.now _ c.hear_all-read.new.conversation.hall.now _ c.hear_all-read.new.conversation.badge.now _
-    (g.W.Sink.contents c.hear_all-read.new.conversation.writer.now) _ (g.W.Sink.has_failed c.hear_all-read.new.conversation.writer.now) _ c.hear_all-read.new.conversation.written _ c.hear_all-read.result
-    (ap g.R.Source.remaining (sym c.new-reading.ensures.reader))
-    (ap g.R.Source.remaining (c.reader-1.given.1 (sym (c.hear_all-read.ensures.end ∙ c.new-reading.ensures.end))))
-    (ap g.R.Source.has_failed (c.reader-1.given.1 (sym (c.hear_all-read.ensures.end ∙ c.new-reading.ensures.end))))
+    serves_at g.H.Oracle.told g.H.Oracle.refused from _ _ _ heard.trace.now _ heard.hall.now _ heard.badge.now _ (g.W.Sink.contents heard.writer.now) _ (g.W.Sink.has_failed heard.writer.now) _ heard.written _ c.hear_all-read.result
     (c.trace-3-1.given.1 (sym (c.hear_all-read.ensures.ends.0 ∙ c.send.ensures.ends.0 ∙ c.new-conversation.ensures.ends.0)))
     (c.hall-1.given.1 (sym (c.hear_all-read.ensures.ends.2 ∙ c.send.ensures.ends.2 ∙ c.new-conversation.ensures.ends.2)))
     (c.badge-1.given.1 (sym (c.hear_all-read.ensures.ends.3 ∙ c.send.ensures.ends.3 ∙ c.new-conversation.ensures.ends.3)))

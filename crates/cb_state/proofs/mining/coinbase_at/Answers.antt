@@ -1,6 +1,6 @@
 use Rattle.std.proofs.Common.{◌≡◌, ◌∙◌, ap, length, rules}
-use Rattle.cb_tx.specs.declared.tx.Tx.{Tx}
-use Rattle.cb_tx.specs.Text.{tx_text}
+use Rattle.cb_block.specs.declared.tx.Tx.{Tx}
+use Rattle.cb_block.specs.TxText.{tx_text}
 use Rattle.cb_state.specs.Mining.{coinbase_of}
 use Rattle.cb_state.proofs.Fits.{coinbase_long}
 use Rattle.cb_state.proofs.mining.coinbase_at.Goals as goal

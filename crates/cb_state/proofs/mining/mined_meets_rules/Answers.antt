@@ -1,6 +1,6 @@
 use Rattle.std.proofs.Common.{◌≡◌, ◌∙◌, ap, subst, sym, length, rules}
 use Rattle.cb_block.specs.declared.block.Block.{Block}
-use Rattle.cb_block.specs.Text.{header_text}
+use Rattle.cb_block.specs.BlockText.{header_text}
 use Rattle.cb_pool.specs.Listing.{Listing, txs_of}
 use Rattle.cb_pool.specs.Rules.{StandsAlone}
 use Rattle.std.specs.Prelude.{All}

@@ -1,5 +1,5 @@
 use Rattle.std.proofs.Common.{◌∷◌, ◌++◌, [], List, Some, ◌∙◌, ap, sym}
-use Rattle.cb_tx.specs.declared.tx.Tx.{Tx}
+use Rattle.cb_block.specs.declared.tx.Tx.{Tx}
 use Rattle.cb_pool.specs.Listing.{txs_of}
 use Rattle.cb_state.proofs.Fits.{take_next}
 use Rattle.cb_state.proofs.mining.txs_behind.Goals as goal

@@ -1,7 +1,7 @@
 use Rattle.std.proofs.Common.{◌≢◌, ◌≤◌, ◌∙◌, ap, arith, inl, inr, length, rules, subst, sym}
 use Rattle.cb_base.specs.declared.fault.Fault.TheVariants.{BadIndex}
 use Rattle.cb_block.specs.Blocks.{MeetsBlockRules}
-use Rattle.cb_block.specs.Text.{block_text, header_text}
+use Rattle.cb_block.specs.BlockText.{block_text, header_text}
 use Rattle.cb_state.specs.declared.serving_places.Excerpt.TheVariants.{Part, Whole}
 use Rattle.cb_state.specs.Parts.{IsCarried, txs_at}
 use Rattle.cb_state.proofs.Parted.{carried, never_below, part_there, whole_there}

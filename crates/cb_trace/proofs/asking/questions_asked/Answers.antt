@@ -1,6 +1,6 @@
 use Rattle.std.proofs.Common.{◌≡◌, List, [], ◌∷◌, ◌++◌, Option, sym, ap, ◌∙◌, arith}
 use Rattle.std.proofs.lemmas.List.{append-nil}
-use Rattle.cb_journal.specs.declared.question.Question.{Question}
+use Rattle.cb_hall.specs.declared.question.Question.{Question}
 use Rattle.cb_trace.specs.Trace.{asked_at}
 use Rattle.cb_trace.proofs.Questions.{account_at, asked_not, asked_told, asked_turn, pending_is_after}
 use Rattle.cb_trace.proofs.asking.questions_asked.Goals as goal

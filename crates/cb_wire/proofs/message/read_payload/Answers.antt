@@ -1,6 +1,6 @@
 use Rattle.std.proofs.lemmas.Result.{err_from_is_err_and}
-use Rattle.cb_tx.proofs.Taking.{memory_told}
-use Rattle.cb_payload.proofs.Requesting.{relay_is_unpaid}
+use Rattle.cb_block.proofs.TakingTxs.{memory_told}
+use Rattle.cb_wire.proofs.Requesting.{relay_is_unpaid}
 use Rattle.cb_wire.proofs.message.read_payload.Goals as goal
 
 pub returns-in_err-relay-in-SendCmpct-clause-paid : goal.returns-in_err-relay-in-SendCmpct-clause-paid

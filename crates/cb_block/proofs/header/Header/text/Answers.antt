@@ -1,7 +1,7 @@
 use Rattle.std.proofs.Common.{◌≡◌, refl, arith}
 use Rattle.std.specs.Int.{w32, to_le_bytes, cast_unsigned}
 use Rattle.std.proofs.lemmas.Int.{to_z-of_z}
-use Rattle.cb_block.specs.Text.{header_text}
+use Rattle.cb_block.specs.BlockText.{header_text}
 use Rattle.cb_block.proofs.header.Header.text.Goals as goal
 
 pub returns-clause-bytes : goal.returns-clause-bytes

@@ -1,7 +1,7 @@
 use Rattle.std.proofs.Common.{◌∙◌, refl, sym, ap, subst, arith}
 use Rattle.std.proofs.lemmas.Bool.{false≢true}
-use Rattle.cb_inbox.specs.declared.queued.Queued.TheVariants as queued
-use Rattle.cb_inbox.specs.Seat.{taken_more}
+use Rattle.cb_crew.specs.declared.queued.Queued.TheVariants as queued
+use Rattle.cb_crew.specs.Seat.{taken_more}
 use Rattle.cb_crew.specs.Work.{IsFresh, IsUnticked}
 use Rattle.cb_crew.specs.Desk.{DeskState, NotTicked, PastAfter, Stepped, desk_state, first_label}
 use Rattle.cb_crew.specs.declared.desk.Step.TheVariants as step

@@ -1,5 +1,5 @@
 use Rattle.std.proofs.Common.{◌≡◌}
-use Rattle.cb_sched.specs.Laws.{IsBeginning}
+use Rattle.cb_crew.specs.Laws.{IsBeginning}
 use Rattle.cb_crew.specs.Desk.{IsSameDesk, NotTicked, PastAfter, first_label}
 use Rattle.cb_crew.proofs.desk.Desk.serve_all.Given as goal
 

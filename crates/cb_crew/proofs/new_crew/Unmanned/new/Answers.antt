@@ -1,4 +1,4 @@
-use Rattle.std.proofs.Common.{◌≡◌, ◌≤◌, ◌∙◌, length, rules, sym, subst, arith}
+use Rattle.std.proofs.Common.{◌≡◌, ◌≤◌, length, rules, sym, subst, arith}
 use Rattle.cb_crew.specs.Crew.{IsNewCrew}
 use Rattle.cb_crew.specs.Ring.{most_peers}
 use Rattle.cb_crew.proofs.NewCrews.{crew_of_lines, lines_count}
@@ -9,16 +9,16 @@ invariant_of-result g c =
     let count : c.len-peers.result ≡ length c.args.works.now.items = search rules in
     (crew_of_lines c.in_ok-labels.labels.items c.len-peers.result c.args.handlers c.args.capacity c.in_ok-ring.ring _ _ _ c.in_ok-lines.ensures.lines (subst (λ n. (1 ≤ n) × (n ≤ most_peers)) (sym count) c.requires.peers) c.requires.handlers.0 c.in_ok-ring.ensures.ring).0
 
-pub invariant_of-result-3 : goal.invariant_of-result-3
-invariant_of-result-3 g c =
+pub invariant_of-result-2 : goal.invariant_of-result-2
+invariant_of-result-2 g c =
     let count = lines_count _ c.args.capacity _ _ _ c.in_ok-lines.ensures.lines in (
-      c.hand.view_is ∙ c.in_ok-ring.ensures.hand,
+      search rules,
       c.in_ok-lines.ensures.lines.readers_are,
       c.in_ok-lines.ensures.lines.vacancies_are,
-      c.in_ok-with_capacity.ensures.items,
-      omega (arith, count, c.in_ok-with_capacity.ensures.capacity),
-      c.in_ok-with_capacity-2.ensures.items,
-      omega (arith, c.in_ok-with_capacity-2.ensures.capacity),
+      c.in_ok-desks.ensures.items,
+      omega (arith, count, c.in_ok-desks.ensures.capacity),
+      c.in_ok-hired.ensures.items,
+      omega (arith, c.in_ok-hired.ensures.capacity),
     )
 
 pub returns-clause-crew : goal.returns-clause-crew

@@ -2,7 +2,7 @@ use Rattle.std.proofs.Common.{◌≡◌, ◌∙◌, ap, ℤ, false, true}
 use Rattle.std.specs.FinMap.{from_entries}
 use Rattle.std.proofs.lemmas.Bool.{false≢true}
 use Rattle.std.proofs.lemmas.Map.Entries.{entries_from_clone}
-use Rattle.cb_tx.specs.declared.tx.OutPoint.{OutPoint}
+use Rattle.cb_block.specs.declared.tx.OutPoint.{OutPoint}
 use Rattle.cb_ledger.proofs.Outpoints.{entries_none}
 use Rattle.cb_ledger.proofs.ledger.Ledger.copy.Goals as goal
 

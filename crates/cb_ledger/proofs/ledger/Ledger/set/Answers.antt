@@ -1,7 +1,7 @@
 use Rattle.std.proofs.Common.{ap, sym, ◌∙◌, Some, None, cond, SFits, w64, rules}
 use Rattle.std.specs.Map.{lookup}
 use Rattle.std.proofs.lemmas.Int.{to_z-of_z}
-use Rattle.cb_tx.proofs.Repeats.{same}
+use Rattle.cb_block.proofs.Repeats.{same}
 use Rattle.std.specs.FinMap.{get}
 use Rattle.cb_ledger.specs.Undo.{set_at}
 use Rattle.cb_ledger.proofs.Outpoints.{get_is, entries_insert, entries_remove}

@@ -1,5 +1,5 @@
 use Rattle.std.proofs.lemmas.Result.{on_ok_weaker}
-use Rattle.cb_net_node.proofs.Forging.{misbehaved}
+use Rattle.cb_net_node.proofs.ForgingLemmas.{misbehaved}
 use Rattle.cb_net_node.proofs.forged_link.ForgedLink.misbehave.Goals as goal
 
 pub returns-clause-ok : goal.returns-clause-ok

@@ -1,6 +1,6 @@
 use Rattle.std.proofs.Common.{refl, ap}
 use Rattle.cb_net_node.specs.declared.forged_link.ForgedLink.{ForgedLink}
-use Rattle.cb_net_node.proofs.Forging.{puts_more, puts_none}
+use Rattle.cb_net_node.proofs.ForgingLemmas.{puts_more, puts_none}
 use Rattle.cb_net_node.proofs.forged_link.ForgedLink.send_all.Goals as goal
 
 pub loop-message-init : goal.loop-message-init

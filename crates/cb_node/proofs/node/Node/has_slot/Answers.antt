@@ -1,5 +1,5 @@
 use Rattle.std.proofs.Common.{ap, ◌∙◌}
-use Rattle.cb_slots.specs.Slot.{uses_of}
+use Rattle.cb_node.specs.Slot.{uses_of}
 use Rattle.cb_node.specs.Node.{NodeState}
 use Rattle.cb_node.proofs.Slots.{none_of}
 use Rattle.cb_node.proofs.node.Node.has_slot.Goals as goal

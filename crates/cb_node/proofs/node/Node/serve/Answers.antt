@@ -1,6 +1,6 @@
 use Rattle.std.proofs.Common.{◌≡◌, ◌≤◌, ◌∙◌, length, vec_capacity, sym, ap, subst}
-use Rattle.cb_journal.specs.Connections.{most_peers}
-use Rattle.cb_slots.specs.Slot.{inboxes_of}
+use Rattle.cb_hall.specs.Connections.{most_peers}
+use Rattle.cb_node.specs.Slot.{inboxes_of}
 use Rattle.cb_node.specs.Node.{NodeState}
 use Rattle.cb_node.proofs.Slots.{as_many, kept_if, served, still_of, uses_count}
 use Rattle.cb_node.proofs.node.Node.serve.Goals as goal

@@ -1,6 +1,6 @@
 use Rattle.std.proofs.Common.{◌≡◌, ℕ, Result, Ok, Err, OnErr, get_or, set, refl, sym, ap, subst, ◌∙◌, arith}
-use Rattle.cb_slots.specs.declared.fault.NodeFault.{NodeFault}
-use Rattle.cb_slots.specs.Slot.{AreAlikeBut, IsInboxOf, SlotState, attached}
+use Rattle.cb_node.specs.declared.fault.NodeFault.{NodeFault}
+use Rattle.cb_node.specs.Slot.{AreAlikeBut, IsInboxOf, SlotState, attached}
 use Rattle.cb_node.proofs.Slots.{alike_then, attached_set, inbox_at, still_of}
 use Rattle.cb_node.proofs.serving.Service.begin.Goals as goal
 

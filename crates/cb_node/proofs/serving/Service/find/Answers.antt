@@ -1,7 +1,7 @@
 use Rattle.std.proofs.Common.{◌≡◌, ℕ, ◌<◌, List, true, false, length, get_or, set, Ok, inr, refl, sym, ap, subst, ◌∙◌, arith}
 use Rattle.std.proofs.lemmas.List.{length-set}
-use Rattle.cb_slots.specs.Choosing.{HasNone, IsLowest}
-use Rattle.cb_slots.specs.Slot.{AreAlike, IsInboxOf, SlotState, WaitsAt, uses_of}
+use Rattle.cb_node.specs.Choosing.{HasNone, IsLowest}
+use Rattle.cb_node.specs.Slot.{AreAlike, IsInboxOf, SlotState, WaitsAt, uses_of}
 use Rattle.cb_node.proofs.Slots.{alike_then, count_of, inbox_at, still_of, waits_set, waits_unused}
 use Rattle.cb_node.proofs.serving.Service.find.Goals as goal
 

@@ -1,5 +1,5 @@
 use Rattle.std.proofs.Common.{◌≡◌, length}
-use Rattle.cb_slots.specs.Slot.{AreAlike}
+use Rattle.cb_node.specs.Slot.{AreAlike}
 use Rattle.cb_node.proofs.serving.Service.find.Given as goal
 
 abbrev pub invariant-loop-number : goal.invariant-loop-number

@@ -1,9 +1,9 @@
 use Rattle.std.proofs.Common.{All, ◌++◌, length, map, ap, subst, sym, ◌∙◌, arith}
 use Rattle.std.proofs.lemmas.List.{length_push}
 use Rattle.std.proofs.lemmas.List.Elements.{All-tail}
-use Rattle.cb_slots.specs.Linking.{link_label}
-use Rattle.cb_slots.specs.Slot.{IsNew}
-use Rattle.cb_slots.proofs.Linking.{label_is, moved}
+use Rattle.cb_node.specs.Linking.{link_label}
+use Rattle.cb_node.specs.Slot.{IsNew}
+use Rattle.cb_node.proofs.Linking.{label_is, moved}
 use Rattle.cb_node.proofs.Slots.{badge_label, badge_peer}
 use Rattle.cb_node.proofs.serving.Service.firsts.Goals as goal
 

@@ -1,6 +1,6 @@
 use Rattle.std.proofs.Common.{◌≡◌, ◌+◌, ◌++◌, ◌≤◌, length, map, vec_capacity, All}
-use Rattle.cb_slots.specs.Linking.{link_label}
-use Rattle.cb_slots.specs.Slot.{IsNew}
+use Rattle.cb_node.specs.Linking.{link_label}
+use Rattle.cb_node.specs.Slot.{IsNew}
 use Rattle.cb_node.proofs.Slots.{badge_label, badge_peer}
 use Rattle.cb_node.proofs.serving.Service.firsts.Given as goal
 

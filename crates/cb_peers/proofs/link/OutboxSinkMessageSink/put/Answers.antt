@@ -1,4 +1,4 @@
-use Rattle.cb_talk.proofs.Writes.{part_none}
+use Rattle.cb_peer_state.proofs.Writes.{part_none}
 use Rattle.cb_peers.proofs.Writing.{wrote_untold}
 use Rattle.cb_peers.proofs.link.OutboxSinkMessageSink.put.Goals as goal
 

@@ -1,9 +1,9 @@
 use Rattle.std.proofs.Common.{◌≡◌, ◌∙◌, ap, arith, inl, inr, length, true, false, subst, sym, Err}
 use Rattle.std.proofs.lemmas.Result.{err_from_is_err_and}
 use Rattle.cb_base.specs.declared.fault.Fault.TheVariants.{Memory}
-use Rattle.cb_tx.specs.declared.tx.Tx.{Tx}
-use Rattle.cb_tx.specs.Rules.{IsCoinbase, IsLeastBroken, MeetsRules}
-use Rattle.cb_tx.specs.Text.{tx_text}
+use Rattle.cb_block.specs.declared.tx.Tx.{Tx}
+use Rattle.cb_block.specs.TxRules.{IsCoinbase, IsLeastBroken, MeetsRules}
+use Rattle.cb_block.specs.TxText.{tx_text}
 use Rattle.cb_pool.specs.Rules.{IsUntold, RefusesAlone}
 use Rattle.cb_pool.proofs.Named.{untold}
 use Rattle.cb_pool.proofs.candidate.Candidate.new.Goals as goal

@@ -1,7 +1,7 @@
 use Rattle.std.proofs.Common.{◌≡◌, ◌∙◌, ap, sym, subst, [], List, get_or}
 use Rattle.cb_base.specs.declared.hash.Hash256.{Hash256}
 use Rattle.cb_block.specs.declared.block.Block.{Block}
-use Rattle.cb_tx.specs.declared.tx.Tx.{Tx}
+use Rattle.cb_block.specs.declared.tx.Tx.{Tx}
 use Rattle.cb_ledger.proofs.Txs.{name_at}
 use Rattle.cb_pool.proofs.Named.{got_at, stands_in_block}
 use Rattle.cb_pool.proofs.candidate.Candidate.of_block.Goals as goal

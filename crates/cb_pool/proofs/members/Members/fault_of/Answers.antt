@@ -3,10 +3,11 @@ use Rattle.std.specs.Prelude.{IsOk}
 use Rattle.cb_base.specs.declared.fault.Fault.TheVariants.{PoolFull}
 use Rattle.cb_ledger.specs.Spend.{spend, spend_tx}
 use Rattle.cb_ledger.specs.Undo.{changed, changes_of}
-use Rattle.cb_tx.specs.declared.tx.Tx.{Tx}
+use Rattle.cb_block.specs.declared.tx.Tx.{Tx}
 use Rattle.cb_pool.specs.Leaving.{after_tx}
 use Rattle.cb_pool.specs.Listing.{Roomy, txs_of}
-use Rattle.cb_pool.specs.Rules.{Applies, Refuses, is_named_in, txid_of}
+use Rattle.cb_pool.specs.Rules.{Applies, Refuses, is_named_in}
+use Rattle.cb_block.specs.Txid.{txid_of}
 use Rattle.cb_pool.proofs.Named.{is_there, pooled_long, pooled_of, txs_long}
 use Rattle.cb_pool.proofs.Spent.{behind}
 use Rattle.cb_pool.proofs.Taking.{refuses_from}

@@ -2,10 +2,10 @@ use Rattle.std.proofs.Common.{◌≡◌, ◌<◌, ◌≤◌, ◌^◌, ◌∙◌,
 use Rattle.std.proofs.lemmas.Bool.{false≢true}
 use Rattle.cb_base.specs.declared.hash.Hash256.{Hash256}
 use Rattle.cb_block.specs.declared.block.Block.{Block}
-use Rattle.cb_tx.specs.declared.tx.Tx.{Tx}
+use Rattle.cb_block.specs.declared.tx.Tx.{Tx}
 use Rattle.cb_ledger.proofs.Txs.{name_at}
 use Rattle.cb_pool.specs.Listing.{Listing, txs_of}
-use Rattle.cb_pool.specs.Rules.{txid_of}
+use Rattle.cb_block.specs.Txid.{txid_of}
 use Rattle.cb_pool.specs.Touching.{AreApart}
 use Rattle.cb_pool.proofs.Untouched.{apart_all, apart_at, apart_more}
 use Rattle.cb_pool.proofs.pool.Pool.is_apart_from.Goals as goal

@@ -1,5 +1,5 @@
 use Rattle.std.proofs.Common.{[], List, map, sym, subst}
-use Rattle.cb_tx.specs.declared.tx.Tx.{Tx}
+use Rattle.cb_block.specs.declared.tx.Tx.{Tx}
 use Rattle.cb_pool.specs.declared.members.Pooled.{Pooled}
 use Rattle.cb_pool.specs.Folding.{Refolds, Took, new_offer, old_offer}
 use Rattle.cb_pool.specs.Listing.{Listing, Plan}

@@ -1,7 +1,7 @@
-use Rattle.std.proofs.Common.{false, ap, ◌∙◌}
+use Rattle.std.proofs.Common.{false, ap}
 use Rattle.cb_wire.specs.Stream.{texts}
 use Rattle.cb_session.proofs.Accounts.{accounts_ran, gave_none, ran_closed}
-use Rattle.cb_session.proofs.Standing.{input_begins, left_none, settled_stands, stands_gave, stands_ready}
+use Rattle.cb_session.proofs.Standing.{left_none, settled_stands, stands_gave, stands_ready}
 use Rattle.cb_session.proofs.conversation.Conversation.give.Goals as goal
 
 pub returns-then-not-ready-clause-gave : goal.returns-then-not-ready-clause-gave

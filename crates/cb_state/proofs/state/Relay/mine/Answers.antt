@@ -4,7 +4,7 @@ use Rattle.std.proofs.lemmas.Result.{err_from_is_err_and}
 use Rattle.cb_base.specs.declared.fault.Fault.TheVariants.{Memory}
 use Rattle.cb_block.specs.Blocks.{texts}
 use Rattle.cb_block.specs.Soundness.{names}
-use Rattle.cb_tx.specs.declared.tx.Tx.{Tx}
+use Rattle.cb_block.specs.declared.tx.Tx.{Tx}
 use Rattle.cb_pool.specs.Listing.{txs_of}
 use Rattle.cb_state.specs.Mining.{CannotMine, IsMined}
 use Rattle.cb_state.specs.State.{RelayState}

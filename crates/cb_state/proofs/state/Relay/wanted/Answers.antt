@@ -1,6 +1,6 @@
 use Rattle.std.proofs.Common.{◌∙◌, List, length, ap, arith}
 use Rattle.std.proofs.lemmas.Bool.{false≢true}
-use Rattle.cb_payload.specs.declared.inventory.Inventory.{Inventory}
+use Rattle.cb_wire.specs.declared.inventory.Inventory.{Inventory}
 use Rattle.cb_state.specs.Wanting.{is_wanted, once}
 use Rattle.cb_state.proofs.OnceEach.{few_more, listed_more, unwanted_at}
 use Rattle.cb_state.proofs.state.Relay.wanted.Goals as goal

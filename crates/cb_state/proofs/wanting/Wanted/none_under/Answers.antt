@@ -1,4 +1,4 @@
-use Rattle.cb_payload.specs.declared.inventory.Inventory.TheVariants.{Tx, Block}
+use Rattle.cb_wire.specs.declared.inventory.Inventory.TheVariants.{Tx, Block}
 use Rattle.cb_state.proofs.OnceEach.{none_noted}
 use Rattle.cb_state.proofs.wanting.Wanted.none_under.Goals as goal
 

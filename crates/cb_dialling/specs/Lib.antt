@@ -1,2 +1,0 @@
-pub mod Dialling
-pub mod OwnAddress

@@ -1,5 +1,0 @@
-use Rattle.cb_hall.proofs.Held.{counts_alike}
-use Rattle.cb_hall.proofs.laws.each_badge_counts_its_questions.Goals as goal
-
-pub returns : goal.returns
-returns c = counts_alike

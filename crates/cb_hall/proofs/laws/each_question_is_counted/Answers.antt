@@ -1,5 +1,0 @@
-use Rattle.cb_hall.proofs.Kicks.{counts}
-use Rattle.cb_hall.proofs.laws.each_question_is_counted.Goals as goal
-
-pub returns : goal.returns
-returns c = counts

@@ -1,8 +1,0 @@
-use Rattle.cb_inbox.proofs.Moves.{begins, forks}
-use Rattle.cb_inbox.proofs.inbox.Inbox.new.Goals as goal
-
-pub ruled-requires-clause-rule : goal.ruled-requires-clause-rule
-ruled-requires-clause-rule g c = begins _
-
-pub another-taking-requires-clause-rule : goal.another-taking-requires-clause-rule
-another-taking-requires-clause-rule g c = forks _ _ _

@@ -1,8 +1,0 @@
-use Rattle.cb_inbox.proofs.Moves.{merges, sights}
-use Rattle.cb_inbox.proofs.reader.Queueing.learn.Goals as goal
-
-pub absorb-requires-clause-rule : goal.absorb-requires-clause-rule
-absorb-requires-clause-rule g c = merges _ _ _ _ _
-
-pub learn_as-requires-clause-rule : goal.learn_as-requires-clause-rule
-learn_as-requires-clause-rule g c = sights _ _ _

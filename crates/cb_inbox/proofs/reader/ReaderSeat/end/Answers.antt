@@ -1,5 +1,0 @@
-use Rattle.cb_inbox.proofs.Seats.{ends_here}
-use Rattle.cb_inbox.proofs.reader.ReaderSeat.end.Goals as goal
-
-pub invariant_of-result : goal.invariant_of-result
-invariant_of-result g c = ends_here _ _ c.in-Ok.ensures.ok

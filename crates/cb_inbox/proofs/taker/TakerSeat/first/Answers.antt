@@ -1,5 +1,0 @@
-use Rattle.cb_inbox.proofs.Seats.{first_seat}
-use Rattle.cb_inbox.proofs.taker.TakerSeat.first.Goals as goal
-
-pub invariant_of-result : goal.invariant_of-result
-invariant_of-result g c = first_seat _ _ _ c.requires

@@ -1,3 +1,0 @@
-pub mod Queued
-pub mod Rule
-pub mod Seat

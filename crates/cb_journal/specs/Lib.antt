@@ -1,6 +1,0 @@
-pub mod Connections
-pub mod Copying
-pub mod Journal
-pub mod Replica
-pub mod Replies
-pub mod Weight

@@ -1,4 +1,0 @@
-pub mod LaneLemmas
-pub mod Padded
-mod PaddingRounds
-mod Rotations

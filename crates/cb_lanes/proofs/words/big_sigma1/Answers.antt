@@ -1,9 +1,0 @@
-use Rattle.std.proofs.Common.{slice_index, arith}
-use Rattle.cb_lanes.proofs.LaneLemmas.{lane_fits}
-use Rattle.cb_lanes.proofs.Rotations.{rotated_three}
-use Rattle.cb_lanes.proofs.words.big_sigma1.Goals as goal
-
-pub returns : goal.returns
-returns c k lt =
-    rw (c.rotate_right.ensures k lt, c.xor-far.ensures k lt, c.rotate_right-middle.ensures k lt, c.xor-near.ensures k lt, c.rotate_right-inner.ensures k lt)
-    (rotated_three 32 (slice_index c.args.x k) 6 5 14 (omega arith) (lane_fits c.args.x k lt c.fits-x.0 c.fits-x.1))

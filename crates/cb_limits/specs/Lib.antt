@@ -1,4 +1,0 @@
-pub mod Doors
-pub mod Limits
-pub mod Places
-pub mod Watching

@@ -1,4 +1,0 @@
-pub mod Handing
-pub mod Loosely
-pub mod Results
-pub mod Talking

@@ -1,5 +1,0 @@
-pub mod Ends
-pub mod Link
-pub mod LooseLink
-pub mod Sides
-pub mod Talks

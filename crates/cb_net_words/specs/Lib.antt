@@ -1,2 +1,0 @@
-pub mod NetLine
-pub mod NetWords

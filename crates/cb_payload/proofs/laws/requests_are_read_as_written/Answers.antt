@@ -1,8 +1,0 @@
-use Rattle.cb_payload.proofs.RoundTrips.{relay_trip, request_trip}
-use Rattle.cb_payload.proofs.laws.requests_are_read_as_written.Goals as goal
-
-pub returns-clause-relay : goal.returns-clause-relay
-returns-clause-relay c = relay_trip
-
-pub returns-clause-request : goal.returns-clause-request
-returns-clause-request c = request_trip

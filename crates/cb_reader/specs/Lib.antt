@@ -1,3 +1,0 @@
-pub mod Input
-pub mod Putting
-pub mod Reading

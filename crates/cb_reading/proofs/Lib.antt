@@ -1,2 +1,0 @@
-mod OnBest
-mod Pages

@@ -1,5 +1,0 @@
-mod Asked
-mod Counted
-mod Leading
-mod Sending
-mod Settling

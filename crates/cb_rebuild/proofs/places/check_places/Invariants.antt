@@ -1,7 +1,0 @@
-use Rattle.std.proofs.Common.{◌≡◌, drop}
-use Rattle.cb_rebuild.specs.Places.{has_places}
-use Rattle.cb_rebuild.proofs.Leading.{lead}
-use Rattle.cb_rebuild.proofs.places.check_places.Given as goal
-
-abbrev pub invariant-loop-given : goal.invariant-loop-given
-invariant-loop-given l = lead l.total l.least (drop l.given-index l.prefilled) ≡ has_places l.fn.txs

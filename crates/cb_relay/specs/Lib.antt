@@ -1,0 +1,15 @@
+pub mod Compacting
+pub mod Completing
+pub mod Envelopes
+pub mod Fields
+pub mod Known
+pub mod Merkle
+pub mod MessageSpans
+pub mod Messages
+pub mod Parts
+pub mod Rebuilding
+pub mod Serving
+pub mod Shapes
+pub mod Spans
+pub mod Whole
+pub mod WholeMessages

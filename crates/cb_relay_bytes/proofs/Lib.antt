@@ -1,7 +1,0 @@
-mod Asking
-mod Judging
-mod Knowing
-mod Pairing
-mod Placing
-mod Sounding
-mod Writing

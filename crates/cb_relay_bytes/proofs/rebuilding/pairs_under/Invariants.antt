@@ -1,6 +1,0 @@
-use Rattle.std.proofs.Common.{◌≡◌, map, take}
-use Rattle.cb_pool.specs.Matching.{pair_of}
-use Rattle.cb_relay_bytes.proofs.rebuilding.pairs_under.Given as goal
-
-abbrev pub invariant-loop-tx : goal.invariant-loop-tx
-invariant-loop-tx l = l.pairs.items ≡ map (pair_of l.key) (take l.tx-index l.txs)

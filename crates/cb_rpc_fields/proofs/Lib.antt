@@ -1,3 +1,0 @@
-pub mod Adding
-pub mod Amounts
-pub mod Lists

@@ -1,7 +1,0 @@
-use Rattle.std.proofs.Common.{ap}
-use Rattle.cb_rpc_fields.proofs.Adding.{adds_is}
-use Rattle.cb_rpc_json.specs.Blocks.{sizes_fields}
-use Rattle.cb_rpc_json.proofs.block.put_block_sizes.Goals as goal
-
-pub returns : goal.returns
-returns c = adds_is c.put_sizes.ensures (ap sizes_fields c.size.ensures)

@@ -1,5 +1,0 @@
-use Rattle.cb_rpc_fields.proofs.Adding.{adds_behind, adds_one, adds_then}
-use Rattle.cb_rpc_json.proofs.mempool.put_mempool.Goals as goal
-
-pub returns : goal.returns
-returns c = adds_behind c.in_ok-begin_object.ensures (adds_then (adds_then c.in_ok-put_use.ensures (adds_then c.in_ok-put_rates.ensures (adds_then c.in_ok-put_number.ensures c.in_ok-put_switch.ensures))) (adds_one c.end_object.ensures))

@@ -1,5 +1,0 @@
-use Rattle.cb_rpc_fields.proofs.Adding.{adds_is, adds_then}
-use Rattle.cb_rpc_json.proofs.spending.put_refused.Goals as goal
-
-pub returns : goal.returns
-returns c = adds_is (adds_then c.in_ok-put_switch.ensures c.in_ok-put_text.ensures) (cc)

@@ -1,9 +1,0 @@
-pub mod Counting
-pub mod Cutting
-pub mod Reporting
-pub mod Requests
-pub mod SimLines
-pub mod SimRead
-pub mod SimReportLemmas
-pub mod SimRunLemmas
-pub mod WordLemmas

@@ -1,9 +1,0 @@
-pub mod Ending
-pub mod Lines
-pub mod Printed
-pub mod Report
-pub mod SimInput
-pub mod SimLine
-pub mod SimReport
-pub mod SimRun
-pub mod Words

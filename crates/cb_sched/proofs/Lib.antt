@@ -1,6 +1,0 @@
-pub mod CrewLaws
-pub mod InboxLemmas
-pub mod DesksLaws
-pub mod LineLaws
-pub mod PartsLaws
-pub mod SystemLemmas

@@ -1,7 +1,0 @@
-use Rattle.std.proofs.Common.{ap, ◌∙◌}
-use Rattle.cb_sched.specs.Line.{line_taken}
-use Rattle.cb_sched.proofs.InboxLemmas.{line_at_more}
-use Rattle.cb_sched.proofs.inbox.Inbox.take.Goals as goal
-
-pub returns : goal.returns
-returns c = line_at_more c.self.inside.marks.items c.self.inside.taken c.self.inside.ended ∙ ap line_taken c.self.view_is

@@ -1,6 +1,0 @@
-use Rattle.cb_sched.proofs.LineLaws.{queued_parts}
-use Rattle.cb_sched.proofs.CrewLaws.{sound_run}
-use Rattle.cb_sched.proofs.laws.queued_is_taken_then_inbox.Goals as goal
-
-pub returns : goal.returns
-returns c = λ peers handlers capacity acts s r p. queued_parts ((sound_run peers handlers capacity acts s r).lines p)

@@ -1,4 +1,0 @@
-pub mod Linking
-mod Lowest
-mod Placing
-mod Seatings

@@ -1,7 +1,0 @@
-use Rattle.std.proofs.Common.{false}
-use Rattle.cb_slots.specs.Choosing.{HasNone}
-use Rattle.cb_slots.specs.Slot.{uses_of}
-use Rattle.cb_slots.proofs.choosing.lowest_unused.Given as goal
-
-abbrev pub invariant-loop-number : goal.invariant-loop-number
-invariant-loop-number g l = HasNone (uses_of l.slots) false l.first l.number

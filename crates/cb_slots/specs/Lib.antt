@@ -1,4 +1,0 @@
-pub mod Choosing
-pub mod Fault
-pub mod Linking
-pub mod Slot

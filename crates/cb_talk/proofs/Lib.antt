@@ -1,4 +1,0 @@
-pub mod Carried
-pub mod Nonces
-pub mod Queues
-pub mod Writes

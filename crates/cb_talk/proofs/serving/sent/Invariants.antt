@@ -1,6 +1,0 @@
-use Rattle.std.proofs.Common.{◌≡◌, ◌++◌, drop}
-use Rattle.cb_talk.specs.Serving.{sent}
-use Rattle.cb_talk.proofs.serving.sent.Given as goal
-
-abbrev pub invariant-loop-piece : goal.invariant-loop-piece
-invariant-loop-piece l = l.messages.items ++ sent l.next (drop l.piece-index l.pieces) ≡ sent l.nonce l.pieces

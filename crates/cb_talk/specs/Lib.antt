@@ -1,9 +1,0 @@
-pub mod Announcing
-pub mod Greeting
-pub mod Inventory
-pub mod MessageQueue
-pub mod Outgoing
-pub mod Room
-pub mod Serving
-pub mod Receipt
-pub mod Writing

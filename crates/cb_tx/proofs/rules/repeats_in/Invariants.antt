@@ -1,7 +1,0 @@
-use Rattle.std.proofs.Common.{take}
-use Rattle.std.specs.HashSet.{contains}
-use Rattle.cb_tx.proofs.Repeats.{same, IsSeen}
-use Rattle.cb_tx.proofs.rules.repeats_in.Given as goal
-
-abbrev pub invariant-loop-input : goal.invariant-loop-input
-invariant-loop-input l = IsSeen (contains same l.spent) (take l.input-index l.inputs)

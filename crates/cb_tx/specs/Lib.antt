@@ -1,4 +1,0 @@
-pub mod Reading
-pub mod Rules
-pub mod Text
-pub mod Writing
