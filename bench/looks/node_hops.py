@@ -64,7 +64,7 @@ class Hops(ProcessLooks):
             self.look("the compact block", unasked.expect("cmpctblock", KINDS[:4]).header.name, name)
             self.look("the header", [it.name for it in headers.expect("headers", KINDS[:4])], [name])
             self.look("the hash", names.expect("inv", KINDS[:3]), [(BLOCK, name)])
-        self.most(f"when {HOPS} blocks have come", time.monotonic() - began, ALL_OF_THEM)
+        self.in_time(f"when {HOPS} blocks have come", time.monotonic() - began, ALL_OF_THEM)
         for peer in (source, unasked, headers, names):
             peer.stream.close()
         self.ends(node, "quit")
@@ -99,7 +99,7 @@ class Hops(ProcessLooks):
                 longest = max(longest, time.monotonic() - told)
                 self.look("what the library is told", library.told(), [(BLOCK, name)])
             self.tell(f"through three nodes in {longest * 1e3:.0f} ms at the most")
-            self.most(f"when {HOPS} blocks have come", time.monotonic() - began, ALL_OF_THEM)
+            self.in_time(f"when {HOPS} blocks have come", time.monotonic() - began, ALL_OF_THEM)
             self.end_all(line.nodes)
 
     # ---- bursts

@@ -75,7 +75,7 @@ class Hostile(ProcessLooks):
         """A block that the node mines comes to the other in time."""
         watch = Stopwatch(node, other)
         self.stands_at(self.mines(node), other)
-        self.most("when the block comes", watch.seconds(), SOON)
+        self.in_time("when the block comes", watch.seconds(), SOON)
 
     @staticmethod
     def end(node, slot):
@@ -158,7 +158,8 @@ class Hostile(ProcessLooks):
             for slot, what in ((1, "the slow one"), (2, "the one that never reads")):
                 took, end = ends.get(slot, (PATIENCE, None))
                 self.look(f"the end of {what}", end, "WriteFault")
-                self.look(f"whether {what} ends in time", STILL / 2 < took < ENDED, True)
+                self.look(f"whether {what} had time", took > STILL / 2, True)
+                self.in_time(f"when {what} ends", took, ENDED)
                 self.tell(f"after {took:.0f} s the connection of {what} had the end {end}")
             self.look("the end of the late one", self.end(node, 3), None)
 
@@ -196,7 +197,7 @@ class Hostile(ProcessLooks):
             sent_aside(peer, HELLO, *[self.large_block(node, other, ENTRIES, SMALL)] * TOO_MANY)
             watch = Stopwatch(node, other)
             self.look("its end", self.ended(node, 1), "WriteFault")
-            self.look("whether it ends in time", watch.seconds() < ENDED, True)
+            self.in_time("when it ends", watch.seconds(), ENDED)
             self.block_in_time(node, other)
 
     def large_block(self, node, other, count, size=LARGE, kind=BLOCK):
@@ -238,7 +239,7 @@ class Hostile(ProcessLooks):
                 time.sleep(0.02)
             most = node.memory("VmHWM")
             self.tell(f"{nonce} pings beside {count} that ask, the longest took {longest:.2f} s; memory {most / 1e6:.0f} MB at the most")
-            self.most("the longest", longest, AT_ONCE, ".2f")
+            self.in_time("the longest", longest, AT_ONCE)
             self.most("bytes of memory", most, MEMORY, ",")
 
     def look_slow_but_all(self):

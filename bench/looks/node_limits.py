@@ -60,7 +60,7 @@ class Limits(ProcessLooks):
         for one, two in ((node, other), (other, node)):
             watch = Stopwatch(node, other)
             self.stands_at(self.mines(one), two)
-            self.most("when the block comes", watch.seconds(), SOON)
+            self.in_time("when the block comes", watch.seconds(), SOON)
 
     def tells(self, node, stream, cause):
         """The log tells why this peer's connection ended."""
@@ -165,7 +165,7 @@ class Limits(ProcessLooks):
             self.look("what it is asked for", [name for _, name in honest.asked()], [block.GetHash()])
             honest.give_block(block)
             self.comes("its block", other, lambda: other.tip()[1] == b2lx(block.GetHash()))
-            self.most("when", time.monotonic() - began, SOON)
+            self.in_time("when", time.monotonic() - began, SOON)
         self.relays(node, other)
 
     def look_elsewhere_an_address_has_a_limit(self):
@@ -342,7 +342,7 @@ class Limits(ProcessLooks):
         self.says(node, f"disconnect {at}", f"disconnected {at}")
         self.says(node, f"disconnect {at}", "error not dialled")
         self.mines(node, height=1)
-        self.most("when", watch.seconds(), 1)
+        self.in_time("when", watch.seconds(), 1)
         time.sleep(DIAL + 2)
         self.look("whether it is dialled again", (node.peers(), node.found("no connection to")), ([], []))
         status, told = node.close("quit")

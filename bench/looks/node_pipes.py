@@ -77,7 +77,7 @@ class Pipes(ProcessLooks):
         """The process ends in time, with this status."""
         began = time.monotonic()
         status = process.wait(timeout=60)
-        self.most("when it ends", time.monotonic() - began, LATEST)
+        self.in_time("when it ends", time.monotonic() - began, LATEST)
         self.look("the status", status, wanted)
 
     # ---- nobody reads
@@ -99,7 +99,7 @@ class Pipes(ProcessLooks):
     def answers_in_time(self, node):
         began = time.monotonic()
         node.tip()
-        self.most("when tip is answered", time.monotonic() - began, SOON)
+        self.in_time("when tip is answered", time.monotonic() - began, SOON)
 
     def look_output_is_unread(self):
         """With a full standard output a new peer is served; `quit` and the end of input end the node within ten seconds."""

@@ -186,7 +186,7 @@ class Processes(ProcessLooks):
         other = self.linked(node)
         watch = Stopwatch(node, other)
         self.stands_at(tip, other)
-        self.most("when it comes, which is before a dial's end", watch.seconds(), 5)
+        self.in_time("when it comes, which is before a dial's end", watch.seconds(), 5)
         self.ends(other)
         self.ends(node, status=3, asked=True)
         self.look("the log", [line for line in node.logged if line], [])

@@ -13,10 +13,10 @@ LOOK = "look_"
 
 
 class Looks:
-    """A look's name, the program that it runs, and how many things came out otherwise than they should."""
+    """A look's name, the program that it runs, and how many things came out otherwise than they should, and how many of those too late."""
 
     def __init__(self, name, program):
-        self.name, self.program, self.count, self.failed = name, program, 0, 0
+        self.name, self.program, self.count, self.failed, self.late = name, program, 0, 0, 0
 
     def look(self, what, got, wanted):
         """Counts a thing. One that came out otherwise is told."""
@@ -28,6 +28,11 @@ class Looks:
     def most(self, what, value, most, form=".1f"):
         """Counts a figure, which may not be more than this."""
         self.look(f"{what}: whether {value:{form}} isn't more than {most:{form}}", value <= most, True)
+
+    def in_time(self, what, seconds, most):
+        """Counts how long something took. A look in which nothing but that was missed is made once more."""
+        self.late += seconds > most
+        self.most(what, seconds, most, ".2f")
 
     def ran(self, *words, given=None):
         """A run of the program on an input, which ends at once where there is none: its status, its output and its standard error."""
@@ -46,6 +51,15 @@ class Looks:
     # ---- the looks of a script
 
     def make(self, look, *words):
+        """Makes one look, and once more where it was only late, since what else the host does takes time too."""
+        count, failed, late = self.count, self.failed, self.late
+        self.make_once(look, *words)
+        if 0 < self.failed - failed == self.late - late:
+            self.tell("that was only late, and is tried again")
+            self.count, self.failed = count, failed
+            self.make_once(look, *words)
+
+    def make_once(self, look, *words):
         """Makes one look, whose name is told with what came out otherwise. What isn't told or done in time counts too."""
         name, what, began, failed = self.name, look.__name__.removeprefix(LOOK), time.monotonic(), self.failed
         self.name = f"{name}: {what}"

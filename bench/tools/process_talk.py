@@ -349,10 +349,10 @@ class Stopwatch:
 class ProcessLooks(Looks):
     """Looks at processes that run nodes."""
 
-    def make(self, look, *words):
+    def make_once(self, look, *words):
         """Makes one look. What it has entered ends with it."""
         with contextlib.ExitStack() as self.stack:
-            super().make(look, *words)
+            super().make_once(look, *words)
 
     def enter(self, context):
         """What lasts to the end of the look."""
