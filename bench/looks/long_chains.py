@@ -99,14 +99,14 @@ class LongChains(ProcessLooks):
             self.ends(second, asked=True, drops=None)
 
     def look_a_node_that_mines(self):
-        """A node mines a block ten times a second while another one downloads its chain."""
+        """A node mines a block behind each 500 that another one has downloaded of its chain."""
         with NodeProcess(self.program, seconds=SECONDS) as first, Between(first.at) as between:
             for _ in range(OFFERED // 1_000):
                 first.say("mine 1000")
             with NodeProcess(self.program, "--connect", between.address, seconds=SECONDS) as second:
-                while second.tip()[0] < OFFERED:
+                for height in range(0, OFFERED, PACE):
+                    self.comes(f"height {height}", second, lambda height=height: second.tip()[0] >= height)
                     self.mines(first)
-                    time.sleep(0.1)
                 self.comes("the tip", second, lambda: second.tip() == first.tip())
                 self.costs("a node that mines", between.headers, first.tip()[0], MEANWHILE)
                 self.ends(second, asked=True, drops=None)

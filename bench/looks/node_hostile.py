@@ -23,7 +23,7 @@ from bench.models.plain_wire import BLOCK, COMPACT
 from bench.tools.basics import GENESIS, envelope, shown
 from bench.tools.made_blocks import mined
 from bench.tools.plain_peer import HELLO, USUAL, PlainPeer, dialled
-from bench.tools.process_talk import ProcessLooks, Stopwatch, connected
+from bench.tools.process_talk import Lateness, ProcessLooks, Stopwatch, connected
 
 # How many slots serve peers that dial a node, how many those that it dials, and how many connections a slot serves.
 INBOUND, OUTBOUND, CONNECTIONS = 48, 16, 256
@@ -226,19 +226,20 @@ class Hostile(ProcessLooks):
     def asked_and_unread(self, count, *words, kind=BLOCK):
         """So many peers ask for a block as often as they may in a message, and don't read. One beside them has its answers meanwhile."""
         with self.pair(*words, ends=False) as (node, other, port), ExitStack() as stack:
-            request = self.large_block(node, other, ENTRIES, FULL, kind)
+            request, late = self.large_block(node, other, ENTRIES, FULL, kind), stack.enter_context(Lateness())
             honest = stack.enter_context(dialled(port))
             honest.shake_hands()
             for _ in range(count):
                 stack.enter_context(small(port, 4_096)).send(HELLO, request)
             end, longest, nonce = time.monotonic() + BESIDE, 0, 0
             while time.monotonic() < end:
-                nonce, began = nonce + 1, time.monotonic()
+                nonce, began = nonce + 1, time.monotonic() - late.seconds
                 self.look("a pong", honest.pinged(nonce, (*USUAL, "inv")), True)
-                longest = max(longest, time.monotonic() - began)
+                longest = max(longest, time.monotonic() - late.seconds - began)
                 time.sleep(0.02)
             most = node.memory("VmHWM")
-            self.tell(f"{nonce} pings beside {count} that ask, the longest took {longest:.2f} s; memory {most / 1e6:.0f} MB at the most")
+            self.tell(f"{nonce} pings beside {count} that ask, the longest took {longest:.2f} s; memory {most / 1e6:.0f} MB at the most; "
+                      f"a sleeper woke {late.seconds:.2f} s too late in all")
             self.in_time("the longest", longest, AT_ONCE)
             self.most("bytes of memory", most, MEMORY, ",")
 

@@ -346,6 +346,32 @@ class Stopwatch:
         return time.monotonic() - self.began - max(0, waited)
 
 
+class Lateness:
+    """By how much the machine wakes a sleeper too late: what each other process waits for on a busy machine."""
+
+    # A sleep in seconds, and by how much it may last longer.
+    NAP, SLACK = 0.002, 0.003
+
+    def __init__(self):
+        self.seconds, self.ends = 0.0, threading.Event()
+        self.sleeper = threading.Thread(target=self.measure, daemon=True)
+
+    def measure(self):
+        while not self.ends.is_set():
+            began = time.monotonic()
+            time.sleep(self.NAP)
+            late = time.monotonic() - began - self.NAP
+            self.seconds += late if late > self.SLACK else 0
+
+    def __enter__(self):
+        self.sleeper.start()
+        return self
+
+    def __exit__(self, *_):
+        self.ends.set()
+        self.sleeper.join()
+
+
 class ProcessLooks(Looks):
     """Looks at processes that run nodes."""
 
