@@ -193,4 +193,7 @@ def still(process, number):
 
 
 if __name__ == "__main__":
+    # A shell can't trap a signal that was ignored when it was started, as SIGINT is behind `./test &` in a script.
+    for it in SIGNALS:
+        signal.signal(it, signal.SIG_DFL)
     sys.exit(Signals.main(__doc__))
