@@ -241,6 +241,33 @@ class Limits(ProcessLooks):
         self.has_tip(node, blocks[-1])
         self.ends(node, asked=True, drops=None)
 
+    def look_blocks_that_nobody_asked_for(self):
+        """A peer gives none of the blocks that it is asked for, but a known one and an orphan twice a second. None of these counts, and it
+        ends by BlockTimeout, since another is ready."""
+        blocks, (known,) = grown(REGTEST_GENESIS, 0, TOLD, b"held"), grown(REGTEST_GENESIS, 0, 1, b"known")
+        (orphan,) = grown(grown(REGTEST_GENESIS, 0, 1, b"unknown")[0].GetHash(), 1, 1, b"orphan")
+        node = self.node("--block-timeout", str(2 * BLOCK))
+        idle, other = (self.enter(dialled(node.port, SECONDS)) for _ in range(2))
+        for peer in (idle, other):
+            peer.shake_hands()
+        began = time.monotonic()
+        self.look("for how many it is asked", asked_for(idle, blocks), FLIGHT)
+        self.serves(other, [known])
+        self.has_tip(node, known)
+        counted = []
+        while is_open(idle.socket) and time.monotonic() < began + 2 * BLOCK + LATE:
+            for block in (known, orphan):
+                idle.give_block(block)
+            time.sleep(0.5)
+            counted += [(peer.full, peer.messages_in) for peer in node.peers() if peer.slot == 0]
+        self.look("what counts", {full for full, _ in counted}, {0})
+        self.look("whether they came", len({came for _, came in counted}) >= BLOCK, True)
+        self.tells(node, idle.socket, "BlockTimeout")
+        self.has_peers(node, 1)
+        self.serves(other, blocks)
+        self.has_tip(node, blocks[-1])
+        self.ends(node, asked=True, drops=None)
+
     def serves(self, peer, blocks):
         """A peer tells headers, and gives each block that it is asked for."""
         by_name, left = {block.GetHash(): block for block in blocks}, len(blocks)

@@ -1,6 +1,6 @@
 ghost use Rattle.std.specs.Prelude.{◌≡◌, [], true, None, length, IfOk, IsOk, IsOkUnless, OnErr, is_some};
 ghost use Rattle.cb_base.specs.declared.fault.Fault.TheVariants.{Memory};
-ghost use Rattle.cb_peer_state.specs.Fetching.{idle};
+ghost use Rattle.cb_peer_state.specs.Fetching.{has, idle};
 ghost use Rattle.cb_peer_state.specs.declared.state.CloseReason.TheVariants as reasons;
 ghost use Rattle.cb_peer_state.specs.Outcomes.{Answers};
 ghost use Rattle.cb_peer_state.specs.Session.{closes, is_light, openings, spares, step_of, takes_no_memory};
@@ -93,6 +93,13 @@ impl Session {
         ensures { result ≡ length self.now.fetch.flight }
     {
         self.kept.fetch.flight().len()
+    }
+
+    /// Whether this block is in flight.
+    pub fn is_in_flight(&self, hash: &Hash256) -> bool
+        ensures { result ≡ has self.now.fetch.flight hash.now }
+    {
+        self.kept.fetch.is_in_flight(hash)
     }
 
     /// Whether blocks are in flight or wanted.

@@ -126,7 +126,7 @@ impl Fetch {
     }
 
     /// Whether the block is in flight.
-    fn is_in_flight(&self, hash: &Hash256) -> bool
+    pub fn is_in_flight(&self, hash: &Hash256) -> bool
         ensures { result ≡ has self.now.flight hash.now }
     {
         stands_in(self.flight.as_slice(), hash)

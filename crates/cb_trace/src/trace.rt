@@ -1,6 +1,7 @@
 ghost use Rattle.std.specs.Prelude.{◌≡◌, ℕ, ◌+◌, ◌*◌, ◌≤◌, ◌<◌, ◌^◌, List, [], ◌∷◌, true, false, Bool, None, IfOk, IsOk, IsOkUnless, OnErr, OnOk};
 ghost use Rattle.cb_base.specs.declared.fault.Fault.TheVariants.{Memory};
 ghost use Rattle.cb_peer_state.specs.Event.{ends_at_once};
+ghost use Rattle.cb_peer_state.specs.Fetching.{has};
 ghost use Rattle.cb_peer_state.specs.Outcomes.{Answers};
 ghost use Rattle.cb_peer_state.specs.Session.{is_light, spares, takes_no_memory};
 ghost use Rattle.cb_peer_state.specs.State.{is_closed, is_fetching};
@@ -190,6 +191,13 @@ impl Trace {
         ensures { result ≡ length self.now.session.fetch.flight }
     {
         self.session.in_flight()
+    }
+
+    /// Whether the session has this block in flight.
+    pub fn is_in_flight(&self, hash: &Hash256) -> bool
+        ensures { result ≡ has self.now.session.fetch.flight hash.now }
+    {
+        self.session.is_in_flight(hash)
     }
 
     /// Whether the session has blocks in flight or wanted.

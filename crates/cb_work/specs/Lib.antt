@@ -1,3 +1,4 @@
+pub mod Bringing
 pub mod Due
 pub mod Flags
 pub mod PeerWork

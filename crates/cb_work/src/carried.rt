@@ -4,7 +4,8 @@ use cb_crew::Given;
 use cb_hall::Answer;
 use cb_peer::Event;
 use cb_session::Input;
-use cb_trace::TraceEntry;
+use cb_state::Taken;
+use cb_trace::{Trace, TraceEntry};
 use cb_wire::{Item, Message};
 
 /// What an item carries that leads to a block.
@@ -20,6 +21,18 @@ enum BlockContent {
     Other,
 }
 
+impl BlockContent {
+    /// The hash of the block.
+    fn hash(&self) -> Option<&Hash256> {
+        match self {
+            BlockContent::Block(hash)
+            | BlockContent::CompactBlock(hash)
+            | BlockContent::Transactions(hash) => Some(hash),
+            BlockContent::Other => None,
+        }
+    }
+}
+
 /// What is counted of an item. It is noted before the item is given to the session.
 #[derive(Clone, Copy)]
 pub(crate) struct Carried {
@@ -30,19 +43,31 @@ pub(crate) struct Carried {
     /// The number of messages that are a `pong`: 0 or 1.
     pub pongs: u64,
     content: BlockContent,
+    /// Whether that block is in flight.
+    in_flight: bool,
 }
 
 impl Carried {
-    /// What is counted of a work's next input.
-    pub fn of(given: &Given<Input>) -> Carried {
+    /// What is counted of the next input of a work with this trace.
+    pub fn of(given: &Given<Input>, trace: &Trace) -> Carried {
         match given {
-            Given::Item(input) => Carried {
-                messages: u64::from(matches!(input, Input::Said(_))),
-                payload: input.payload_len(),
-                pongs: u64::from(is_pong(input)),
-                content: content_of(input),
-            },
+            Given::Item(input) => Carried::of_input(input, trace),
             Given::End => Carried::nothing(),
+        }
+    }
+
+    /// What is counted of an item of the peer's.
+    fn of_input(input: &Input, trace: &Trace) -> Carried {
+        let content = content_of(input);
+        Carried {
+            messages: u64::from(matches!(input, Input::Said(_))),
+            payload: input.payload_len(),
+            pongs: u64::from(is_pong(input)),
+            content,
+            in_flight: match content.hash() {
+                Some(hash) => trace.is_in_flight(hash),
+                None => false,
+            },
         }
     }
 
@@ -53,6 +78,7 @@ impl Carried {
             payload: 0,
             pongs: 0,
             content: BlockContent::Other,
+            in_flight: false,
         }
     }
 }
@@ -119,13 +145,14 @@ impl Rebuilding {
         }
     }
 
-    /// The block that the step of this item handed to the hall, if it did. `entries` are the
-    /// trace's entries after the step.
+    /// The block that the peer gave by this item, if it did. `entries` are the trace's entries
+    /// after its step.
     pub fn brought(&mut self, carried: &Carried, entries: &[TraceEntry]) -> Option<Brought> {
         let before = self.before(carried);
-        let path = self.path(carried, entries)?;
+        let taken = taken(entries);
+        let path = self.path(carried, taken.is_some());
         let payload = before.saturating_add(carried.payload);
-        Some(Brought { path, payload })
+        Brought::of(path?, payload, carried.in_flight, taken?.refused)
     }
 
     /// The payload bytes that came before this item of the block that it may bring; `u64::MAX` if
@@ -138,8 +165,8 @@ impl Rebuilding {
         }
     }
 
-    /// How a block came, if the step of this item handed one to the hall.
-    fn path(&mut self, carried: &Carried, entries: &[TraceEntry]) -> Option<BlockPath> {
+    /// How a block came, if the step of this item handed one to the hall, as `taken` tells.
+    fn path(&mut self, carried: &Carried, taken: bool) -> Option<BlockPath> {
         match carried.content {
             BlockContent::Block(hash) => {
                 let awaited = self.ends(hash);
@@ -148,16 +175,14 @@ impl Rebuilding {
                 } else {
                     BlockPath::Full
                 };
-                taken(entries).then_some(path)
+                taken.then_some(path)
             }
             BlockContent::CompactBlock(hash) => {
-                let taken = taken(entries);
                 self.block = if taken { None } else { Some(hash) };
                 self.payload = carried.payload;
                 taken.then_some(BlockPath::Compact)
             }
             BlockContent::Transactions(hash) => {
-                let taken = taken(entries);
                 if taken {
                     self.ends(hash);
                 }
@@ -177,15 +202,15 @@ impl Rebuilding {
     }
 }
 
-/// Whether the hall took a block since the trace's last input.
-fn taken(entries: &[TraceEntry]) -> bool {
+/// What the hall answered to the block that it was handed since the trace's last input, if it was.
+fn taken(entries: &[TraceEntry]) -> Option<&Taken> {
     for entry in entries.iter().rev() {
         match &entry.event {
-            Event::Told(Answer::Taken(_)) => return true,
+            Event::Told(Answer::Taken(taken)) => return Some(taken),
             Event::Told(_) | Event::NoMemory | Event::HallFull | Event::WriteFault => {}
             Event::Said(_) | Event::Broken(_) | Event::Tick | Event::Probe | Event::ReaderEnd =>
-                return false,
+                return None,
         }
     }
-    false
+    None
 }

@@ -468,7 +468,7 @@ impl<S: MessageSink + Drop, H: Oracle + Drop, F: Flags> Work for PeerWork<S, H, 
             WasTicked H.told H.refused S.contents S.has_failed F.looks self.old at →
             WasTicked H.told H.refused S.contents S.has_failed F.looks self.new at }
     {
-        let carried = Carried::of(&item);
+        let carried = Carried::of(&item, &self.trace);
         self.note(&item);
         let written = self.written;
         self.give(item);

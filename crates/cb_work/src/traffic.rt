@@ -1,4 +1,8 @@
+ghost use Rattle.std.specs.Prelude.{◌≡◌};
+ghost use Rattle.cb_work.specs.Bringing.{brought_by};
+
 use crate::due::ToldTip;
+use cb_base::Fault;
 use cb_peer_state::State;
 
 /// How a block came that was handed to the hall.
@@ -15,7 +19,7 @@ pub enum BlockPath {
     Fallback,
 }
 
-/// A block that was handed to the hall.
+/// A block that a peer gave: it was handed to the hall, and it was in flight or new to the hall.
 #[derive(Clone, Copy, Debug, PartialEq, Eq)]
 pub struct Brought {
     /// How it came.
@@ -23,6 +27,26 @@ pub struct Brought {
     /// The number of payload bytes of the messages that brought it: of its `block`, or of its
     /// `cmpctblock` and `blocktxn`. `u64::MAX` if that of the `cmpctblock` isn't known any more.
     pub payload: u64,
+}
+
+impl Brought {
+    /// What counts of a block that was handed to the hall: whether it was in flight before, and why
+    /// the hall refused it, if it did. One that nobody asked for and that the hall knew or couldn't
+    /// take isn't given.
+    pub fn of(
+        path: BlockPath,
+        payload: u64,
+        in_flight: bool,
+        refused: Option<Fault>,
+    ) -> Option<Brought>
+        ensures { result ≡ brought_by path payload in_flight refused }
+    {
+        if in_flight || refused.is_none() {
+            Some(Brought { path, payload })
+        } else {
+            None
+        }
+    }
 }
 
 /// What one step of a connection moved, and how far its session is then.
@@ -46,7 +70,7 @@ pub struct StepTraffic {
     pub seeks: bool,
     /// What the peer was told of the tip, as of the end of the step.
     pub told: ToldTip,
-    /// The block that the step handed to the hall, if it did.
+    /// The block that the peer gave by the step, if it did.
     pub block: Option<Brought>,
     /// How far the session is after the step.
     pub state: State,
